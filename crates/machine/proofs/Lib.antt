@@ -1,0 +1,4 @@
+-- Laws of the base that belong to no one function.
+pub mod Tests
+pub mod Bools
+pub mod Ranges

@@ -1,0 +1,71 @@
+-- 01, "Rules of the grid": setup, ask, turn and release, from the memory before to the answer and the memory after.
+use mathlib.Core.Bool.{Bool, true, false}
+use mathlib.Core.List.{List, [], _∷_}
+use Prim.Native.Nat.{ℕ}
+use Rattle.machine.specs.Places.{blocks, nameNumber}
+use Rattle.machine.specs.Records.{idle}
+use Rattle.machine.specs.Memory.{Memory, marksNeeded, stateOf, withRecord, fill}
+use Rattle.machine.specs.Turn.{access, value, store, next}
+use Rattle.machine.specs.Refusals.{setupVerdict, verdict}
+use Rattle.machine.specs.declared.Settings.{Settings}
+use Rattle.machine.specs.declared.Name.{Name}
+use Rattle.machine.specs.declared.State.{State}
+use Rattle.machine.specs.declared.State.the-variants.{Idle, Seeking, Holding}
+use Rattle.machine.specs.declared.Kind.{Kind}
+use Rattle.machine.specs.declared.Kind.the-variants.{Ask, Turn, Release}
+use Rattle.machine.specs.declared.Event.{Event}
+use Rattle.machine.specs.declared.Verdict.{Verdict}
+use Rattle.machine.specs.declared.Answer.{Answer}
+
+pub record Outcome : Type 0 where
+  pub answer : Answer
+  pub memory : Memory
+
+-- the name at (r, c)
+abbrev pub nameAt : Settings → ℕ → ℕ → Name
+nameAt s r c = record { 0 = nameNumber s r c }
+
+-- "seeks", or "holds" with the name
+abbrev pub standing : Settings → State → Answer
+standing s Idle = Answer.Seeks
+standing s (Seeking r c point) = Answer.Seeks
+standing s (Holding r c) = Answer.Holds (nameAt s r c)
+
+-- the freed name
+abbrev pub freed : Settings → State → Answer
+freed s Idle = Answer.Seeks
+freed s (Seeking r c point) = Answer.Seeks
+freed s (Holding r c) = Answer.Freed (nameAt s r c)
+
+-- the answer of an accepted call, from the record before and the record after
+abbrev pub answerOf : Settings → Kind → State → State → Answer
+answerOf s Ask before after = standing s after
+answerOf s Turn before after = standing s after
+answerOf s Release before after = freed s before
+
+-- an accepted call of a task whose record says `state`: the register is read and written, and the next record put in place
+abbrev pub nextState : Settings → Kind → ℕ → State → Memory → State
+nextState s kind p state m = next s kind p state (value s (access s kind p state) m)
+
+abbrev pub accept : Settings → Kind → ℕ → State → Memory → Outcome
+accept s kind p state m = record {
+  answer = answerOf s kind state (nextState s kind p state m);
+  memory = withRecord p (record { state = nextState s kind p state m }) (store s (access s kind p state) m);
+}
+
+-- a refused call answers why, and changes nothing
+abbrev pub refuseOr : Verdict → Memory → Outcome → Outcome
+refuseOr Verdict.Accepted m outcome = outcome
+refuseOr (Verdict.Refused why) m outcome = record { answer = Answer.Refused why; memory = m }
+
+-- ask, turn or release of one task
+abbrev pub call : Settings → Event → Memory → Outcome
+call s event m =
+    refuseOr (verdict s (event .kind) (event .task .0) m) m (accept s (event .kind) (event .task .0) (stateOf m (event .task .0)) m)
+
+-- setup makes the N records idle, all X 0 and all marks 0
+abbrev pub cleared : Settings → Memory → Memory
+cleared s m = record { records = fill (s .n) idle (m .records); xs = fill (blocks s) 0 (m .xs); marks = fill (marksNeeded s) 0 (m .marks) }
+
+abbrev pub setup : Settings → Memory → Outcome
+setup s m = refuseOr (setupVerdict s m) m (record { answer = Answer.Done; memory = cleared s m })

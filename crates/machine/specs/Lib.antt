@@ -1,0 +1,12 @@
+-- The definitions of the base, in the order of document 01. What a reader must believe.
+pub mod Settings
+pub mod Places
+pub mod Records
+pub mod Memory
+pub mod Turn
+pub mod Refusals
+pub mod Answers
+pub mod Calls
+pub mod History
+pub mod File
+pub mod Listing

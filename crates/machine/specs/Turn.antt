@@ -1,0 +1,106 @@
+-- 01, "Rules of the grid", over Figures 4 and 5 of source 001. A call looks at the task's record alone to learn which register it touches, makes
+-- that one access, and hands the value read to the record: `next` sees no memory, and `store` changes one element at the most.
+-- Statement numbers in brackets: [4.n] of Figure 4, mode 0; [5.n] of Figure 5, mode 1.
+use mathlib.Core.Bool.{Bool, true, false, cond}
+use Prim.Native.Nat.{ℕ, _+_}
+use lib.Dec.{eqb, leb}
+use lib.ListN.{getD}
+use Rattle.machine.specs.Settings.{width, own}
+use Rattle.machine.specs.Places.{blockNumber}
+use Rattle.machine.specs.Records.{idle}
+use Rattle.machine.specs.Memory.{Memory, markIndex, withX, withMark}
+use Rattle.machine.specs.declared.Settings.{Settings}
+use Rattle.machine.specs.declared.Direction.{Direction}
+use Rattle.machine.specs.declared.Direction.the-variants.{Right, Down}
+use Rattle.machine.specs.declared.Point.{Point}
+use Rattle.machine.specs.declared.Point.the-variants.{WriteX, Scan, WriteMark, ReadX, Clear}
+use Rattle.machine.specs.declared.State.{State}
+use Rattle.machine.specs.declared.State.the-variants.{Idle, Seeking, Holding}
+use Rattle.machine.specs.declared.Record.{Record}
+use Rattle.machine.specs.declared.Access.{Access}
+use Rattle.machine.specs.declared.Access.the-variants.{NoAccess, XRead, XWritten, MarkRead, MarkWritten}
+use Rattle.machine.specs.declared.Kind.{Kind}
+use Rattle.machine.specs.declared.Kind.the-variants.{Ask, Turn, Release}
+
+-- ---- which register a call touches
+
+-- the access at a point of the block at (r, c), by task p
+abbrev pub pointAccess : Settings → ℕ → ℕ → ℕ → Point → Access
+pointAccess s p r c WriteX = XWritten (blockNumber s r c) (p + 1)  -- [4.0] [5.2]
+pointAccess s p r c (Scan h) = MarkRead (blockNumber s r c) h  -- [4.1] [5.3]
+pointAccess s p r c WriteMark = MarkWritten (blockNumber s r c) (own s p) 1  -- [4.2] [5.4]
+pointAccess s p r c ReadX = XRead (blockNumber s r c)  -- [4.3] [5.5]
+pointAccess s p r c (Clear direction) = MarkWritten (blockNumber s r c) (own s p) 0  -- [5.6]
+
+-- a turn makes the access of its point; a task that does not seek has none to make
+abbrev pub turnAccess : Settings → ℕ → State → Access
+turnAccess s p Idle = NoAccess
+turnAccess s p (Seeking r c point) = pointAccess s p r c point
+turnAccess s p (Holding r c) = NoAccess
+
+-- [5.8] a release clears the own mark of a block, and touches nothing on the edge
+abbrev pub releaseAccess : Settings → ℕ → State → Access
+releaseAccess s p Idle = NoAccess
+releaseAccess s p (Seeking r c point) = NoAccess
+releaseAccess s p (Holding r c) = cond (leb (r + c + 2) (s .k)) (MarkWritten (blockNumber s r c) (own s p) 0) NoAccess
+
+abbrev pub access : Settings → Kind → ℕ → State → Access
+access s Ask p state = NoAccess
+access s Turn p state = turnAccess s p state
+access s Release p state = releaseAccess s p state
+
+-- ---- the one access
+
+-- what a read sees; 0 where nothing is read
+abbrev pub value : Settings → Access → Memory → ℕ
+value s NoAccess m = 0
+value s (XRead block) m = getD (m .xs) block 0
+value s (XWritten block v) m = 0
+value s (MarkRead block place) m = getD (m .marks) (markIndex s block place) 0
+value s (MarkWritten block place v) m = 0
+
+-- the one register written, or none
+abbrev pub store : Settings → Access → Memory → Memory
+store s NoAccess m = m
+store s (XRead block) m = m
+store s (XWritten block v) m = withX block v m
+store s (MarkRead block place) m = m
+store s (MarkWritten block place v) m = withMark (markIndex s block place) v m
+
+-- ---- the next record
+
+-- a task that comes to a place holds it on the edge, r+c = k-1, and stands at write X on a block
+abbrev pub arrive : Settings → ℕ → ℕ → State
+arrive s r c = cond (eqb (r + c + 1) (s .k)) (Holding r c) (Seeking r c WriteX)
+
+-- right adds 1 to c, down to r
+abbrev pub move : Settings → ℕ → ℕ → Direction → State
+move s r c Right = arrive s r (c + 1)
+move s r c Down = arrive s (r + 1) c
+
+-- a task that must move does so at once one-time, and first clears its mark long-lived
+abbrev pub leave : Settings → ℕ → ℕ → Direction → State
+leave s r c direction = cond (eqb (s .mode) 0) (move s r c direction) (Seeking r c (Clear direction))
+
+-- the turn of task p at a point of the block at (r, c), where v is the value read
+abbrev pub pointTurned : Settings → ℕ → ℕ → ℕ → Point → ℕ → State
+pointTurned s p r c WriteX v = Seeking r c (Scan 0)
+pointTurned s p r c (Scan h) v =
+    cond (eqb v 1) (leave s r c Right) (cond (eqb (h + 1) (width s)) (Seeking r c WriteMark) (Seeking r c (Scan (h + 1))))
+pointTurned s p r c WriteMark v = Seeking r c ReadX
+pointTurned s p r c ReadX v = cond (eqb v (p + 1)) (Holding r c) (leave s r c Down)
+pointTurned s p r c (Clear direction) v = move s r c direction
+
+abbrev pub turned : Settings → ℕ → State → ℕ → State
+turned s p Idle v = Idle
+turned s p (Seeking r c point) v = pointTurned s p r c point v
+turned s p (Holding r c) v = Holding r c
+
+abbrev pub nextRecord : Settings → ℕ → Record → ℕ → Record
+nextRecord s p before v = record { state = turned s p (before .state) v }
+
+-- [5.1] an ask comes to (0, 0), which with k = 1 is the edge; a release leaves the task idle
+abbrev pub next : Settings → Kind → ℕ → State → ℕ → State
+next s Ask p state v = arrive s 0 0
+next s Turn p state v = turned s p state v
+next s Release p state v = Idle

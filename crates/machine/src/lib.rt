@@ -1,0 +1,258 @@
+// What a supervisor holds and is answered: the types of the grid, in the forms and widths of the
+// schedule file, and the one step of a task's record. Every definition that a contract cites is in
+// `specs/`.
+
+ghost use mathlib.Core.Path.{_≡_};
+ghost use Prim.Native.Nat.{_+_, _≤_};
+ghost use lib.Dec.{T};
+ghost use Rattle.machine.specs.Settings.{width};
+ghost use Rattle.machine.specs.Records.{pointInRange, recordInRange};
+ghost use Rattle.machine.specs.Turn.{arrive, move, leave, pointTurned, nextRecord};
+
+// Mode 0 is one-time, mode 1 long-lived. There are n tasks, of which at most k are out at once.
+pub struct Settings {
+    pub mode: u8,
+    pub n: u16,
+    pub k: u8,
+}
+
+// A task's identifier, 0 to N-1. It is no name.
+pub struct TaskId(pub u16);
+
+// A name, 0 to k(k+1)/2-1. It is no identifier.
+pub struct Name(pub u16);
+
+// Which way a clearing task goes.
+pub enum Direction {
+    Right,
+    Down,
+}
+
+// Where in its block a seeking task stands: the access that its next turn makes.
+pub enum Point {
+    WriteX,
+    Scan(u16),
+    WriteMark,
+    ReadX,
+    Clear(Direction),
+}
+
+// A task is idle, seeks at the block in row r and column c, or holds the place there.
+pub enum State {
+    Idle,
+    Seeking { r: u8, c: u8, point: Point },
+    Holding { r: u8, c: u8 },
+}
+
+// A task's record, as it stands in the lent row.
+pub struct Record {
+    pub state: State,
+}
+
+// The one register that a call touches, if any: an X number by its block, a mark by its block and
+// its place among the block's marks, and the value where one is written.
+pub enum Access {
+    NoAccess,
+    XRead {
+        block: usize,
+    },
+    XWritten {
+        block: usize,
+        value: u32,
+    },
+    MarkRead {
+        block: usize,
+        place: usize,
+    },
+    MarkWritten {
+        block: usize,
+        place: usize,
+        value: u8,
+    },
+}
+
+// What a task is called with.
+pub enum Kind {
+    Ask,
+    Turn,
+    Release,
+}
+
+// A call of one task: an event of a schedule.
+pub struct Event {
+    pub kind: Kind,
+    pub task: TaskId,
+}
+
+// A lent row.
+pub enum Row {
+    Records,
+    Xs,
+    Marks,
+}
+
+// Why a call is refused, in the order of their numbers, 1 to 14.
+pub enum Refusal {
+    Limits,
+    ShortRow,
+    OutOfRange { row: Row, index: usize },
+    NoSuchTask,
+    OneTime,
+    WrongMoment,
+    TooManyOut,
+    FileLength,
+    Letters,
+    Version,
+    TooManyEvents,
+    EventCode,
+    NoEvent,
+    ShortRoom,
+}
+
+// What a call's tests say.
+pub enum Verdict {
+    Accepted,
+    Refused(Refusal),
+}
+
+// What setup, ask, turn and release answer.
+pub enum Answer {
+    Done,
+    Seeks,
+    Holds(Name),
+    Freed(Name),
+    Refused(Refusal),
+}
+
+// What opening a schedule file answers: its settings and its count of events.
+pub enum Opening {
+    Opened { settings: Settings, count: u16 },
+    Refused(Refusal),
+}
+
+// What a reader answers when asked for its next event.
+pub enum Reading {
+    Given(Event),
+    Refused(Refusal),
+}
+
+// What writing a schedule file answers: how many bytes it wrote.
+pub enum Writing {
+    Wrote(usize),
+    Refused(Refusal),
+}
+
+impl Settings {
+    // How many marks a block has: one one-time, one for each task long-lived.
+    pub fn width(self) -> u16
+        ensures { λ w. ⌜ w ≡ width self ⌝ }
+    {
+        if self.mode == 0 {
+            return 1;
+        }
+        self.n
+    }
+
+    // Where a task comes to (r, c): it holds the edge, and stands at write X on a block.
+    fn arrive(self, r: u8, c: u8) -> State
+        requires { ⌜ r + c + 1 ≤ self .k ⌝ }
+        ensures { λ to. ⌜ to ≡ arrive self r c ⌝ }
+    {
+        if r + c + 1 == self.k {
+            return State::Holding { r: r, c: c };
+        }
+        State::Seeking {
+            r: r,
+            c: c,
+            point: Point::WriteX,
+        }
+    }
+
+    // One place to the right or down.
+    fn moved(self, r: u8, c: u8, direction: Direction) -> State
+        requires { ⌜ r + c + 2 ≤ self .k ⌝ }
+        ensures { λ to. ⌜ to ≡ move self r c direction ⌝ }
+    {
+        match direction {
+            Direction::Right => self.arrive(r, c + 1),
+            Direction::Down => self.arrive(r + 1, c),
+        }
+    }
+
+    // Out of a block: at once one-time, by way of the clear long-lived.
+    fn leave(self, r: u8, c: u8, direction: Direction) -> State
+        requires { ⌜ r + c + 2 ≤ self .k ⌝ }
+        ensures { λ to. ⌜ to ≡ leave self r c direction ⌝ }
+    {
+        if self.mode == 0 {
+            return self.moved(r, c, direction);
+        }
+        State::Seeking {
+            r: r,
+            c: c,
+            point: Point::Clear(direction),
+        }
+    }
+
+    // The turn of a task that seeks in the block at (r, c), where v is the value that it read.
+    fn turned(self, task: TaskId, r: u8, c: u8, point: Point, v: u32) -> State
+        requires { ⌜ (r + c + 2 ≤ self .k) × T (pointInRange self point) ⌝ }
+        ensures { λ to. ⌜ to ≡ pointTurned self (task .0) r c point v ⌝ }
+    {
+        match point {
+            Point::WriteX => State::Seeking {
+                r: r,
+                c: c,
+                point: Point::Scan(0),
+            },
+            Point::Scan(h) => {
+                if v == 1 {
+                    return self.leave(r, c, Direction::Right);
+                }
+                let width = self.width();
+                if h + 1 == width {
+                    return State::Seeking {
+                        r: r,
+                        c: c,
+                        point: Point::WriteMark,
+                    };
+                }
+                State::Seeking {
+                    r: r,
+                    c: c,
+                    point: Point::Scan(h + 1),
+                }
+            }
+            Point::WriteMark => State::Seeking {
+                r: r,
+                c: c,
+                point: Point::ReadX,
+            },
+            Point::ReadX => {
+                if v == task.0 as u32 + 1 {
+                    return State::Holding { r: r, c: c };
+                }
+                self.leave(r, c, Direction::Down)
+            }
+            Point::Clear(direction) => self.moved(r, c, direction),
+        }
+    }
+}
+
+impl Record {
+    // A task's record goes into the turn with the value that the turn's access read, and the next
+    // record comes out. A task that does not seek has no turn, and its record stays.
+    pub fn turned(self, s: Settings, task: TaskId, v: u32) -> Record
+        requires { ⌜ T (recordInRange s self) ⌝ }
+        ensures { λ to. ⌜ to ≡ nextRecord s (task .0) self v ⌝ }
+    {
+        let state = self.state;
+        match state {
+            State::Idle => self,
+            State::Seeking { r, c, point } => Record {
+                state: s.turned(task, r, c, point, v),
+            },
+            State::Holding { r: _, c: _ } => self,
+        }
+    }
+}
