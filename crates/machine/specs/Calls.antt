@@ -4,7 +4,7 @@ use mathlib.Core.List.{List, [], _∷_}
 use Prim.Native.Nat.{ℕ}
 use Rattle.machine.specs.Places.{blocks, nameNumber}
 use Rattle.machine.specs.Records.{idle}
-use Rattle.machine.specs.Memory.{Memory, marksNeeded, stateOf, withRecord, fill}
+use Rattle.machine.specs.Memory.{Memory, marksNeeded, stateOf, viewOf, withRecord, fill}
 use Rattle.machine.specs.Turn.{access, value, store, next}
 use Rattle.machine.specs.Refusals.{setupVerdict, verdict}
 use Rattle.machine.specs.declared.Settings.{Settings}
@@ -59,13 +59,15 @@ refuseOr Verdict.Accepted m outcome = outcome
 refuseOr (Verdict.Refused why) m outcome = record { answer = Answer.Refused why; memory = m }
 
 -- ask, turn or release of one task
+abbrev pub verdictOf : Settings → Event → Memory → Verdict
+verdictOf s event m = verdict s (event .kind) (event .task .0) (viewOf s (m .records) (event .task .0)) (m .xs) (m .marks)
+
 abbrev pub call : Settings → Event → Memory → Outcome
-call s event m =
-    refuseOr (verdict s (event .kind) (event .task .0) m) m (accept s (event .kind) (event .task .0) (stateOf m (event .task .0)) m)
+call s event m = refuseOr (verdictOf s event m) m (accept s (event .kind) (event .task .0) (stateOf m (event .task .0)) m)
 
 -- setup makes the N records idle, all X 0 and all marks 0
 abbrev pub cleared : Settings → Memory → Memory
 cleared s m = record { records = fill (s .n) idle (m .records); xs = fill (blocks s) 0 (m .xs); marks = fill (marksNeeded s) 0 (m .marks) }
 
 abbrev pub setup : Settings → Memory → Outcome
-setup s m = refuseOr (setupVerdict s m) m (record { answer = Answer.Done; memory = cleared s m })
+setup s m = refuseOr (setupVerdict s (viewOf s (m .records) 0) (m .xs) (m .marks)) m (record { answer = Answer.Done; memory = cleared s m })

@@ -10,3 +10,5 @@ pub mod Calls
 pub mod History
 pub mod File
 pub mod Listing
+pub mod Worst
+pub mod Demands

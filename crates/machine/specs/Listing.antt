@@ -109,7 +109,7 @@ abbrev pub advanceBy : Settings → ℕ → Event → Outcome → Progress → P
 advanceBy s position event outcome before = record {
   memory = outcome .memory;
   turns = turnsAfter event (outcome .answer) (before .turns);
-  peak = max (before .peak) (holdersOf s (outcome .memory));
+  peak = max (before .peak) (holdersOf s (outcome .memory .records));
   most = max (before .most) (completed (outcome .answer) (getD (turnsAfter event (outcome .answer) (before .turns)) (event .task .0) 0));
   lines = before .lines ++ eventLine position event (outcome .answer);
 }
@@ -124,7 +124,7 @@ progress s file zero = start s
 progress s file (suc n) = advance s n (eventAt file n) (progress s file n)
 
 abbrev pub ended : Settings → Progress → List ℕ
-ended s last = last .lines ++ endLine (holdersOf s (last .memory)) (last .peak) (last .most)
+ended s last = last .lines ++ endLine (holdersOf s (last .memory .records)) (last .peak) (last .most)
 
 abbrev pub listingBy : Opening → List ℕ → List ℕ
 listingBy (Opening.Opened settings count) file = ended settings (progress settings file count)

@@ -1,16 +1,16 @@
 -- 01, "Memory that is lent": the three rows, what a call needs of them, and what one register written leaves.
-use mathlib.Core.Path.{_≡_}
 use mathlib.Core.Bool.{Bool, true, false, cond}
-use mathlib.Core.List.{List, [], _∷_, _++_}
+use mathlib.Core.List.{List, _++_}
 use Prim.Native.Nat.{ℕ, zero, suc, _+_, _*_}
-use lib.Dec.{leb}
+use lib.Dec.{leb, ltb}
 use lib.ListN.{length, getD, set, replicate, drop}
 use Rattle.machine.specs.Settings.{width}
 use Rattle.machine.specs.Places.{blocks}
-use Rattle.machine.specs.Records.{idle, isOut, isHolding}
+use Rattle.machine.specs.Records.{idle, isOut, isHolding, recordInRange}
 use Rattle.machine.specs.declared.Settings.{Settings}
 use Rattle.machine.specs.declared.State.{State}
 use Rattle.machine.specs.declared.Record.{Record}
+use Rattle.machine.specs.declared.View.{View}
 
 -- what the supervisor lends; a row may be longer than needed
 pub record Memory : Type 0 where
@@ -49,27 +49,47 @@ xInRange s x = leb x (s .n)
 abbrev pub markInRange : ℕ → Bool
 markInRange mark = leb mark 1
 
--- the index of the first of n elements that fails the test; n where none does
-abbrev pub firstBad : {A : Type 0} → (A → Bool) → ℕ → List A → ℕ
-firstBad good zero l = 0
-firstBad good (suc n) [] = 0
-firstBad good (suc n) (x ∷ l) = elim (good x) [ true ↦ suc (firstBad good n l) | false ↦ 0 ]
+-- ---- searching and counting
 
--- how many numbers below n pass the test
 abbrev pub tick : Bool → ℕ → ℕ
 tick true n = suc n
 tick false n = n
 
+-- how many numbers below n pass the test
 unfoldable pub count : (ℕ → Bool) → ℕ → ℕ
 count test zero = zero
 count test (suc n) = tick (test n) (count test n)
 
--- how many of the N tasks are out, and how many hold
-abbrev pub outOf : Settings → Memory → ℕ
-outOf s m = count (λ p. isOut (stateOf m p)) (s .n)
+-- the least number below n that fails the test; n where none does
+abbrev pub firstOr : ℕ → ℕ → Bool → ℕ
+firstOr earlier n good = cond (ltb earlier n) earlier (tick good n)
 
-abbrev pub holdersOf : Settings → Memory → ℕ
-holdersOf s m = count (λ p. isHolding (stateOf m p)) (s .n)
+unfoldable pub firstBad : (ℕ → Bool) → ℕ → ℕ
+firstBad good zero = zero
+firstBad good (suc n) = firstOr (firstBad good n) n (good n)
+
+-- the first value out of range of each row, searched in order; the count of needed values where all are in range
+abbrev pub badRecord : Settings → List Record → ℕ
+badRecord s records = firstBad (λ p. recordInRange s (getD records p idle)) (s .n)
+
+abbrev pub badX : Settings → List ℕ → ℕ
+badX s xs = firstBad (λ block. xInRange s (getD xs block 0)) (blocks s)
+
+abbrev pub badMark : Settings → List ℕ → ℕ
+badMark s marks = firstBad (λ index. markInRange (getD marks index 0)) (marksNeeded s)
+
+-- how many of the N tasks are out, and how many hold
+abbrev pub outOf : Settings → List Record → ℕ
+outOf s records = count (λ p. isOut (getD records p idle .state)) (s .n)
+
+abbrev pub holdersOf : Settings → List Record → ℕ
+holdersOf s records = count (λ p. isHolding (getD records p idle .state)) (s .n)
+
+-- what a call of task p sees of the records
+abbrev pub viewOf : Settings → List Record → ℕ → View
+viewOf s records p = record { length = length records; bad = badRecord s records; out = outOf s records; own = getD records p idle }
+
+-- ---- setup
 
 -- the first n elements become a, the surplus stays
 abbrev pub fill : {A : Type 0} → ℕ → A → List A → List A

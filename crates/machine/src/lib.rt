@@ -109,6 +109,15 @@ pub enum Refusal {
     ShortRoom,
 }
 
+// What a call sees of the row of records: its length, the index of the first of the N records that
+// is out of range (N where none is), how many of them are out, and the task's own.
+pub struct View {
+    pub length: usize,
+    pub bad: usize,
+    pub out: usize,
+    pub own: Record,
+}
+
 // What a call's tests say.
 pub enum Verdict {
     Accepted,

@@ -1,0 +1,133 @@
+-- 00, demand 3: "Take an accepted setup, then any calls but setup, all with its settings and on its memory, which nothing else touches."
+-- The calls are any list of asks, turns and releases, of any task numbers, the refused ones included.
+use mathlib.Core.Path.{_≡_}
+use mathlib.Core.Bool.{Bool, true, false, cond, _&&_}
+use mathlib.Core.List.{List, [], _∷_, _++_}
+use Prim.Native.Nat.{ℕ, _+_, _-_, _*_, _≤_, _<_}
+use lib.Dec.{T, eqb}
+use Rattle.machine.specs.Settings.{permitted}
+use Rattle.machine.specs.Places.{names, nameNumber}
+use Rattle.machine.specs.Records.{isSeeking, isHolding}
+use Rattle.machine.specs.Memory.{Memory, stateOf}
+use Rattle.machine.specs.Answers.{isAccepted}
+use Rattle.machine.specs.Calls.{call, setup}
+use Rattle.machine.specs.History.{run, Answered, history, turnsOf}
+use Rattle.machine.specs.Listing.{largest}
+use Rattle.machine.specs.Worst.{ask, turn, release, turns, worst}
+use Rattle.machine.specs.declared.Settings.{Settings}
+use Rattle.machine.specs.declared.Name.{Name}
+use Rattle.machine.specs.declared.State.{State}
+use Rattle.machine.specs.declared.State.the-variants.{Holding}
+use Rattle.machine.specs.declared.Kind.{Kind}
+use Rattle.machine.specs.declared.Kind.the-variants.{Ask, Turn, Release}
+use Rattle.machine.specs.declared.Event.{Event}
+use Rattle.machine.specs.declared.Answer.{Answer}
+
+-- ---- what the statements speak of
+
+-- setup of the lent memory is accepted
+abbrev pub SetUp : Settings → Memory → Type 0
+SetUp s lent = setup s lent .answer ≡ Answer.Done
+
+-- the memory that setup and then the calls leave, and the calls with their answers
+abbrev pub memoryAfter : Settings → Memory → List Event → Memory
+memoryAfter s lent events = run s events (setup s lent .memory)
+
+abbrev pub historyOf : Settings → Memory → List Event → List Answered
+historyOf s lent events = history s events (setup s lent .memory)
+
+-- the accepted turns of task p since its last accepted ask
+abbrev pub used : Settings → Memory → List Event → ℕ → ℕ
+used s lent events p = turnsOf p (historyOf s lent events) 0
+
+-- task p holds the name n
+pub record HoldsName (s : Settings) (m : Memory) (p n : ℕ) : Type 0 where
+  pub r : ℕ
+  pub c : ℕ
+  pub holds : stateOf m p ≡ Holding r c
+  pub named : n ≡ nameNumber s r c
+
+abbrev pub Seeks : Memory → ℕ → Type 0
+Seeks m p = T (isSeeking (stateOf m p))
+
+abbrev pub HoldsSome : Memory → ℕ → Type 0
+HoldsSome m p = T (isHolding (stateOf m p))
+
+-- what the last accepted ask or turn of task p answered; `before` where there was none
+abbrev pub asksOrTurns : Kind → Bool
+asksOrTurns Ask = true
+asksOrTurns Turn = true
+asksOrTurns Release = false
+
+abbrev pub lastAnswer : ℕ → List Answered → Answer → Answer
+lastAnswer p [] before = before
+lastAnswer p (done ∷ rest) before =
+    lastAnswer p rest
+    (cond (isAccepted (done .answer) && (eqb (done .event .task .0) p && asksOrTurns (done .event .kind))) (done .answer) before)
+
+-- the most own turns that an acquisition takes: (N+4)(k-1) long-lived, 4(k-1) one-time
+abbrev pub bound : Settings → ℕ
+bound s = cond (eqb (s .mode) 0) 4 (s .n + 4) * (s .k - 1)
+
+-- ---- the statements
+
+-- "Tasks holding names hold different ones"
+abbrev pub HeldNamesDiffer : Type 0
+HeldNamesDiffer =
+    (s : Settings) (lent : Memory) (events : List Event) → SetUp s lent → (p q n : ℕ) → p < s .n → q < s .n
+    → HoldsName s (memoryAfter s lent events) p n → HoldsName s (memoryAfter s lent events) q n → p ≡ q
+
+-- "all below k(k+1)/2"
+abbrev pub HeldNamesBelow : Type 0
+HeldNamesBelow =
+    (s : Settings) (lent : Memory) (events : List Event) → SetUp s lent → (p n : ℕ) → p < s .n → HoldsName s (memoryAfter s lent events) p n → n < names s
+
+-- the name that a task holds is the one that its last accepted ask or turn answered, and the one that its release answers
+pub record Told (s : Settings) (lent : Memory) (events : List Event) (p n : ℕ) : Type 0 where
+  pub answered : lastAnswer p (historyOf s lent events) Answer.Done ≡ Answer.Holds (record { 0 = n })
+  pub freed : s .mode ≡ 1 → call s (release p) (memoryAfter s lent events) .answer ≡ Answer.Freed (record { 0 = n })
+
+abbrev pub HeldNameAnswered : Type 0
+HeldNameAnswered =
+    (s : Settings) (lent : Memory) (events : List Event) → SetUp s lent → (p n : ℕ) → p < s .n → HoldsName s (memoryAfter s lent events) p n
+    → Told s lent events p n
+
+-- "No turn of a seeking task is refused"
+abbrev pub SeekerNeverRefused : Type 0
+SeekerNeverRefused =
+    (s : Settings) (lent : Memory) (events : List Event) → SetUp s lent → (p : ℕ) → p < s .n → Seeks (memoryAfter s lent events) p
+    → T (isAccepted (call s (turn p) (memoryAfter s lent events) .answer))
+
+-- "From an accepted ask, a task holds a name within .. of its own accepted turns": it has used fewer than the bound while it seeks, at most the
+-- bound when it holds, and from any point on its own turns alone, "though every other task stops for good", bring it to hold within the bound
+pub record Served (s : Settings) (lent : Memory) (events : List Event) (p : ℕ) : Type 0 where
+  pub seeking : Seeks (memoryAfter s lent events) p → used s lent events p < bound s
+  pub holding : HoldsSome (memoryAfter s lent events) p → used s lent events p ≤ bound s
+  pub alone : Seeks (memoryAfter s lent events) p
+      → (more : ℕ) × (used s lent events p + more ≤ bound s) × HoldsSome (memoryAfter s lent (events ++ turns more p)) p
+
+abbrev pub ServedWithin : Type 0
+ServedWithin = (s : Settings) (lent : Memory) (events : List Event) → SetUp s lent → (p : ℕ) → p < s .n → Served s lent events p
+
+-- "For each permitted mode, N and k some sequence makes one task need exactly that many": after the calls `before` task 0 still seeks (with k = 1 it
+-- has not asked), its next call lets it hold, it has then used exactly the bound, and no call is refused
+abbrev pub allAccepted : List Answered → Bool
+allAccepted [] = true
+allAccepted (done ∷ rest) = isAccepted (done .answer) && allAccepted rest
+
+pub record NeedsBound (s : Settings) (lent : Memory) (events : List Event) : Type 0 where
+  pub accepted : T (allAccepted (historyOf s lent events))
+  pub before : List Event
+  pub last : Event
+  pub split : events ≡ before ++ (last ∷ [])
+  pub its : last .task .0 ≡ 0
+  pub late : 1 < s .k → Seeks (memoryAfter s lent before) 0
+  pub holds : HoldsSome (memoryAfter s lent events) 0
+  pub exactly : used s lent events 0 ≡ bound s
+
+abbrev pub BoundExact : Type 0
+BoundExact = (s : Settings) (lent : Memory) → SetUp s lent → NeedsBound s lent (worst s)
+
+-- setup of a memory with rows long enough is accepted, so none of the above is empty
+abbrev pub SetupTakes : Type 0
+SetupTakes = (s : Settings) → T (permitted s) → SetUp s largest
