@@ -2,3 +2,5 @@
 pub mod Tests
 pub mod Bools
 pub mod Ranges
+pub mod Triangle
+pub mod Searching
