@@ -1,6 +1,9 @@
 -- Laws of the base that belong to no one function.
 pub mod Tests
 pub mod Bools
+pub mod Limits
 pub mod Ranges
 pub mod Triangle
 pub mod Searching
+pub mod Fresh
+pub mod Edges

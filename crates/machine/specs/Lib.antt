@@ -12,3 +12,4 @@ pub mod File
 pub mod Listing
 pub mod Worst
 pub mod Demands
+pub mod Edges

@@ -1,0 +1,156 @@
+-- 01, "Both sides of each edge": the nine starred lines, as one statement about the definitions.
+-- A run begins with setup of a lent memory. Where a line leaves N, k, mode or task open it is stated for all that are permitted; the lines that
+-- follow a run of turns are stated at the smallest and the largest N that they permit (docs/DECISIONS.md).
+use mathlib.Core.Path.{_≡_}
+use mathlib.Core.Bool.{Bool, true, false}
+use mathlib.Core.List.{List, [], _∷_, _++_, map}
+use Prim.Native.Nat.{ℕ, _+_, _<_}
+use lib.Dec.{T, ltb}
+use lib.ListN.{length}
+use Rattle.machine.specs.Settings.{permitted}
+use Rattle.machine.specs.Places.{blocks, nameNumber}
+use Rattle.machine.specs.Memory.{Memory, marksNeeded, badRecord, badX, badMark}
+use Rattle.machine.specs.Refusals.{rowShort}
+use Rattle.machine.specs.Answers.{isAccepted}
+use Rattle.machine.specs.Calls.{call, setup}
+use Rattle.machine.specs.History.{Answered}
+use Rattle.machine.specs.Listing.{largest, bytesOf, listing}
+use Rattle.machine.specs.Worst.{ask, turn, release, turns}
+use Rattle.machine.specs.Demands.{SetUp, memoryAfter, historyOf, used, bound}
+use Rattle.machine.specs.declared.Settings.{Settings}
+use Rattle.machine.specs.declared.Name.{Name}
+use Rattle.machine.specs.declared.Event.{Event}
+use Rattle.machine.specs.declared.Refusal.{Refusal}
+use Rattle.machine.specs.declared.Refusal.the-variants.{NoSuchTask, OneTime, TooManyOut}
+use Rattle.machine.specs.declared.Answer.{Answer}
+use Rattle.machine.specs.declared.Answer.the-variants.{Seeks, Holds, Freed, Refused}
+use Rattle.machine.specs.declared.View.{View}
+
+abbrev pub settings : ℕ → ℕ → ℕ → Settings
+settings mode n k = record { mode = mode; n = n; k = k }
+
+abbrev pub named : ℕ → Answer
+named n = Holds (record { 0 = n })
+
+-- what a run of calls is answered, on the largest lent memory
+abbrev pub answers : Settings → List Event → List Answer
+answers s events = map (λ (done : Answered). done .answer) (historyOf s largest events)
+
+-- a task asks and takes so many turns
+abbrev pub acquires : ℕ → ℕ → List Event
+acquires p count = ask p ∷ turns count p
+
+-- it is told that it seeks by the ask and by all of those turns but the last, which gives it the name
+abbrev pub seeksFor : ℕ → List Answer
+seeksFor ℕ.zero = []
+seeksFor (ℕ.suc count) = Seeks ∷ seeksFor count
+
+abbrev pub servedAt : ℕ → ℕ → List Answer
+servedAt count name = seeksFor count ++ (named name ∷ [])
+
+-- the last answer of a run
+abbrev pub lastOf : Settings → List Event → Event → Answer
+lastOf s events event = call s event (memoryAfter s largest events) .answer
+
+-- 01's sixteen events, and its listing
+abbrev pub sample : List ℕ
+sample =
+    0x47 ∷ 0x52 ∷ 0x53 ∷ 0x01 ∷ 0x00 ∷ 0x01 ∷ 0x02 ∷ 0x00 ∷ 0x02 ∷ 0x10 ∷ 0x00
+    ∷ 0 ∷ 0 ∷ 0 ∷ 0 ∷ 1 ∷ 0
+    ∷ 1 ∷ 0 ∷ 0 ∷ 1 ∷ 1 ∷ 0
+    ∷ 1 ∷ 0 ∷ 0 ∷ 1 ∷ 0 ∷ 0 ∷ 1 ∷ 0 ∷ 0 ∷ 1 ∷ 0 ∷ 0 ∷ 1 ∷ 0 ∷ 0
+    ∷ 1 ∷ 1 ∷ 0 ∷ 1 ∷ 1 ∷ 0 ∷ 1 ∷ 1 ∷ 0 ∷ 1 ∷ 1 ∷ 0
+    ∷ 2 ∷ 0 ∷ 0 ∷ 1 ∷ 0 ∷ 0 ∷ 2 ∷ 1 ∷ 0
+    ∷ []
+
+abbrev pub sampleText : List ℕ
+sampleText =
+    bytesOf "grid 1 2 2\n0 ask 0 seeks\n1 ask 1 seeks\n2 turn 0 seeks\n3 turn 1 seeks\n"
+    ++ (bytesOf "4 turn 0 seeks\n5 turn 0 seeks\n6 turn 0 seeks\n7 turn 0 seeks\n8 turn 0 holds 2\n"
+    ++ (bytesOf "9 turn 1 seeks\n10 turn 1 seeks\n11 turn 1 seeks\n12 turn 1 holds 0\n"
+    ++ bytesOf "13 free 0 freed 2\n14 turn 0 refused 6\n15 free 1 freed 0\nend 0 2 6\n"))
+
+-- the first nine of the sixteen: task 0 holds
+abbrev pub sampleStart : List Event
+sampleStart = ask 0 ∷ ask 1 ∷ turn 0 ∷ turn 1 ∷ turns 5 0
+
+-- a memory that passes the tests 1 to 3
+pub record Passes (s : Settings) (m : Memory) : Type 0 where
+  pub limits : T (permitted s)
+  pub rows : rowShort s (length (m .records)) (m .xs) (m .marks) ≡ false
+  pub records : ltb (badRecord s (m .records)) (s .n) ≡ false
+  pub xs : ltb (badX s (m .xs)) (blocks s) ≡ false
+  pub marks : ltb (badMark s (m .marks)) (marksNeeded s) ≡ false
+
+-- k = 5: places (0,0), (0,4), (1,0), (2,2), (4,0) have names 0, 4, 5, 11, 14
+abbrev pub FiveNames : Type 0
+FiveNames =
+    (s : Settings) → s .k ≡ 5
+    → (nameNumber s 0 0 ≡ 0) × (nameNumber s 0 4 ≡ 4) × (nameNumber s 1 0 ≡ 5) × (nameNumber s 2 2 ≡ 11) × (nameNumber s 4 0 ≡ 14)
+
+-- k = 1: ask gives name 0 after no turns
+abbrev pub NoTurns : Type 0
+NoTurns =
+    (s : Settings) (lent : Memory) → SetUp s lent → s .k ≡ 1 → (p : ℕ) → p < s .n
+    → (call s (ask p) (setup s lent .memory) .answer ≡ named 0) × (used s lent (ask p ∷ []) p ≡ 0)
+
+-- Lone task, mode 1, N = 2, k = 2: name 0 after 5 turns (N+3)
+abbrev pub LoneTask : Type 0
+LoneTask = (answers (settings 1 2 2) (acquires 0 5) ≡ servedAt 5 0) × (answers (settings 1 2 2) (acquires 1 5) ≡ servedAt 5 0)
+
+-- Then the other task: task 1 behind holder 0 gets name 1 in 3 turns; task 0 behind holder 1 in 4
+abbrev pub TheOtherTask : Type 0
+TheOtherTask =
+    (answers (settings 1 2 2) (acquires 0 5 ++ acquires 1 3) ≡ servedAt 5 0 ++ servedAt 3 1)
+    × (answers (settings 1 2 2) (acquires 1 5 ++ acquires 0 4) ≡ servedAt 5 0 ++ servedAt 4 1)
+
+-- Mode 0, k = 2: first task name 0 in 4 turns, a later one name 1 in 2
+abbrev pub FirstAndLater : ℕ → ℕ → ℕ → Type 0
+FirstAndLater n p q = answers (settings 0 n 2) (acquires p 4 ++ acquires q 2) ≡ servedAt 4 0 ++ servedAt 2 1
+
+abbrev pub OneTimePair : Type 0
+OneTimePair = FirstAndLater 2 0 1 × FirstAndLater 2 1 0 × FirstAndLater 256 0 255 × FirstAndLater 256 255 0
+
+-- The listing above, whose task 0 uses 6 turns, the bound for N = 2, k = 2
+abbrev pub TheListing : Type 0
+TheListing = (listing sample ≡ sampleText) × (used (settings 1 2 2) largest sampleStart 0 ≡ 6) × (bound (settings 1 2 2) ≡ 6)
+
+-- Mode 1, N = 3, k = 2, two out, the third task's ask: 7. After one is freed: accepted
+abbrev pub ThirdTask : ℕ → ℕ → ℕ → Type 0
+ThirdTask p q r =
+    (lastOf (settings 1 3 2) (ask p ∷ ask q ∷ []) (ask r) ≡ Refused TooManyOut)
+    × (lastOf (settings 1 3 2) (ask p ∷ ask q ∷ turns 6 p) (ask r) ≡ Refused TooManyOut)
+    × (lastOf (settings 1 3 2) (ask p ∷ ask q ∷ turns 6 p) (release p) ≡ Freed (record { 0 = 0 }))
+    × (lastOf (settings 1 3 2) (ask p ∷ ask q ∷ (turns 6 p ++ (release p ∷ []))) (ask r) ≡ Seeks)
+
+abbrev pub TwoOut : Type 0
+TwoOut = ThirdTask 0 1 2 × ThirdTask 0 2 1 × ThirdTask 1 0 2 × ThirdTask 1 2 0 × ThirdTask 2 0 1 × ThirdTask 2 1 0
+
+-- After setup with N = 256, an ask by 256: 4; by 255: accepted
+abbrev pub LastIdentifier : Type 0
+LastIdentifier =
+    (s : Settings) (lent : Memory) → SetUp s lent → s .n ≡ 256
+    → (call s (ask 256) (setup s lent .memory) .answer ≡ Refused NoSuchTask) × T (isAccepted (call s (ask 255) (setup s lent .memory) .answer))
+
+-- Release in mode 0, any identifier below N: 5, also while idle
+abbrev pub NoRelease : Type 0
+NoRelease =
+    (s : Settings) (m : Memory) → s .mode ≡ 0 → Passes s m → (p : ℕ) → p < s .n → call s (release p) m .answer ≡ Refused OneTime
+
+abbrev pub NoReleaseIdle : Type 0
+NoReleaseIdle =
+    (s : Settings) (lent : Memory) → SetUp s lent → s .mode ≡ 0 → (p : ℕ) → p < s .n
+    → call s (release p) (setup s lent .memory) .answer ≡ Refused OneTime
+
+-- the table, whole
+pub record Edges : Type 0 where
+  pub five-names : FiveNames
+  pub no-turns : NoTurns
+  pub lone-task : LoneTask
+  pub the-other-task : TheOtherTask
+  pub one-time-pair : OneTimePair
+  pub the-listing : TheListing
+  pub two-out : TwoOut
+  pub last-identifier : LastIdentifier
+  pub no-release : NoRelease
+  pub no-release-idle : NoReleaseIdle
