@@ -3,6 +3,7 @@ pub mod Tests
 pub mod Bools
 pub mod Limits
 pub mod Ranges
+pub mod Turning
 pub mod Triangle
 pub mod Searching
 pub mod Fresh
