@@ -31,7 +31,9 @@ bytesOf (string._∷_ character rest) = code character ∷ bytesOf rest
 -- a number in decimal, without leading zeros; the first argument bounds the digits, and n + 1 is enough
 abbrev pub digits : ℕ → ℕ → List ℕ
 digits zero n = []
-digits (suc fuel) n = elim (ltb n 10) [ true ↦ (48 + n) ∷ [] | false ↦ digits fuel (n / 10) ++ ((48 + n % 10) ∷ []) ]
+digits (suc fuel) n =
+    let more : List ℕ = digits fuel (n / 10) ++ ((48 + n % 10) ∷ []) in
+    cond (ltb n 10) ((48 + n) ∷ []) more
 
 unfoldable pub decimal : ℕ → List ℕ
 decimal n = digits (n + 1) n
