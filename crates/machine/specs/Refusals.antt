@@ -41,7 +41,7 @@ outsideLimits s = not (permitted s)
 abbrev pub rowShort : Settings → ℕ → List ℕ → List ℕ → Bool
 rowShort s records xs marks = ltb records (s .n) || (ltb (length xs) (blocks s) || ltb (length marks) (marksNeeded s))
 
--- 3: a needed value is out of range: records first, then X, then marks
+-- 3: a needed value is out of range: records first, then X, then marks, each with the index of the first bad value; `rest` follows
 abbrev pub rangeCases : Settings → View → List ℕ → List ℕ → List Case → List Case
 rangeCases s seen xs marks rest =
     when (ltb (seen .bad) (s .n)) (OutOfRange Records (seen .bad))
@@ -71,19 +71,22 @@ tooManyOut s Ask out = leb (s .k) out
 tooManyOut s Turn out = false
 tooManyOut s Release out = false
 
--- setup tests 1, 2
-abbrev pub setupVerdict : Settings → View → List ℕ → List ℕ → Verdict
-setupVerdict s seen xs marks = first (when (outsideLimits s) Limits ∷ when (rowShort s (seen .length) xs marks) ShortRow ∷ [])
+-- the cases in their order: what is lent, 1 and 2; what it holds, 3, above; the task, 4 to 7
+abbrev pub lentCases : Settings → View → List ℕ → List ℕ → List Case → List Case
+lentCases s seen xs marks rest = when (outsideLimits s) Limits ∷ when (rowShort s (seen .length) xs marks) ShortRow ∷ rest
 
--- the other calls 1 to 7 ascending
-abbrev pub verdict : Settings → Kind → ℕ → View → List ℕ → List ℕ → Verdict
-verdict s kind p seen xs marks =
-    first
-    (when (outsideLimits s) Limits
-    ∷ when (rowShort s (seen .length) xs marks) ShortRow
-    ∷ rangeCases s seen xs marks
-    (when (noSuchTask s p) NoSuchTask
+abbrev pub taskCases : Settings → Kind → ℕ → View → List Case
+taskCases s kind p seen =
+    when (noSuchTask s p) NoSuchTask
     ∷ when (oneTimeRelease s kind) OneTime
     ∷ when (wrongMoment kind (seen .own .state)) WrongMoment
     ∷ when (tooManyOut s kind (seen .out)) TooManyOut
-    ∷ []))
+    ∷ []
+
+-- setup tests 1, 2
+abbrev pub setupVerdict : Settings → View → List ℕ → List ℕ → Verdict
+setupVerdict s seen xs marks = first (lentCases s seen xs marks [])
+
+-- the other calls 1 to 7 ascending
+abbrev pub verdict : Settings → Kind → ℕ → View → List ℕ → List ℕ → Verdict
+verdict s kind p seen xs marks = first (lentCases s seen xs marks (rangeCases s seen xs marks (taskCases s kind p seen)))

@@ -1,0 +1,17 @@
+use native.Mathlib.Omega.{arith}
+use Rattle.places.proofs.Limits.{limits}
+use Rattle.machine.proofs.Tests.{tests}
+use Rattle.places.proofs.blocks.Statement.{statement}
+use Rattle.places.proofs.blocks.Tie as tie
+
+cast-half : tie.Need-cast-half
+cast-half c = search tests
+
+half-requires : tie.Need-half-requires
+half-requires c κs = let limit = limits (c .before .args .s) (c .before .pre) in omega arith
+
+returns : tie.Need-returns
+returns c = search tests
+
+pub blocks-spec : {M : Type 1} → statement M
+blocks-spec = tie.close (tie.spec cast-half half-requires returns)

@@ -1,0 +1,24 @@
+use mathlib.Core.Path.{refl}
+use native.Mathlib.Omega.{arith}
+use Rattle.machine.specs.Places.{half}
+use Rattle.places.proofs.Counts.{product-fits}
+use Rattle.machine.proofs.Tests.{tests}
+use Rattle.places.proofs.half.Statement.{statement}
+use Rattle.places.proofs.half.Tie as tie
+
+returns : tie.Need-returns
+unfolding half
+returns c = rw (c .if1 .taken)
+
+sub-result : tie.Need-sub-result
+sub-result c = search tests
+
+mul-result : tie.Need-mul-result
+mul-result c = product-fits _ _ (omega arith) (omega arith)
+
+returns-2 : tie.Need-returns-2
+unfolding half
+returns-2 c = refl
+
+pub half-spec : {M : Type 1} → statement M
+half-spec = tie.close (tie.spec returns sub-result mul-result returns-2)

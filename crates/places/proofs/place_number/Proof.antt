@@ -1,0 +1,34 @@
+use Prim.Native.Nat.{_-_}
+use native.Mathlib.Omega.{arith}
+use Rattle.places.proofs.Limits.{limits}
+use Rattle.machine.specs.Places.{placeNumber}
+use Rattle.places.proofs.Counts.{product-small, product-fits, half-in-row}
+use Rattle.machine.proofs.Tests.{tests}
+use Rattle.places.proofs.place_number.Statement.{statement}
+use Rattle.places.proofs.place_number.Tie as tie
+
+sub-side : tie.Need-sub-side
+sub-side c = search tests
+
+cast-side : tie.Need-cast-side
+cast-side c = search tests
+
+mul-result : tie.Need-mul-result
+mul-result c = let limit = limits (c .before .args .s) (c .before .pre .0) in product-fits _ _ (omega arith) (omega arith)
+
+half-requires : tie.Need-half-requires
+half-requires c κs = let limit = limits (c .before .args .s) (c .before .pre .0) in omega arith
+
+sub-result : tie.Need-sub-result
+sub-result c = rw (c .half .ensures) (half-in-row _ _ (omega arith))
+
+add-result : tie.Need-add-result
+add-result c = let limit = limits (c .before .before .args .s) (c .before .before .pre .0) in omega (arith, product-small (c .before .before .args .r) (c .before .before .args .s .k - c .before .before .args .less) (omega arith) (omega arith))
+
+returns : tie.Need-returns
+unfolding placeNumber
+returns c = rw (c .half .ensures)
+
+pub place-number-spec : {M : Type 1} → statement M
+place-number-spec =
+    tie.close (tie.spec sub-side cast-side mul-result half-requires sub-result add-result returns)

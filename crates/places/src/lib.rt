@@ -1,0 +1,119 @@
+// Numbers of the grid: the limits of the settings, the counts of blocks, names and marks, and the
+// numbers of places. The formula of the triangle is said once, in `place_number`.
+
+use machine::Name;
+use machine::Settings;
+use machine::TaskId;
+ghost use mathlib.Core.Path.{_≡_};
+ghost use Prim.Native.Nat.{_+_, _-_, _≤_, _<_};
+ghost use lib.Dec.{T};
+ghost use Rattle.machine.specs.Settings.{permitted, width, own};
+ghost use Rattle.machine.specs.Places.{half, placeNumber, blocks, blockNumber, names};
+ghost use Rattle.machine.specs.Memory.{marksNeeded, markIndex};
+ghost use Rattle.machine.specs.Calls.{nameAt};
+
+// Whether the settings are within the limits.
+pub fn permitted(s: Settings) -> bool
+    ensures { λ ok. ⌜ ok ≡ permitted s ⌝ }
+{
+    if s.mode > 1 {
+        return false;
+    }
+    if s.n < 1 {
+        return false;
+    }
+    if s.n > 256 {
+        return false;
+    }
+    if s.k < 1 {
+        return false;
+    }
+    if s.k > 16 {
+        return false;
+    }
+    if s.k as u16 > s.n {
+        return false;
+    }
+    true
+}
+
+// The half product r(r-1)/2.
+pub fn half(r: usize) -> usize
+    requires { ⌜ r ≤ 16 ⌝ }
+    ensures { λ x. ⌜ x ≡ half r ⌝ }
+{
+    if r == 0 {
+        return 0;
+    }
+    r * (r - 1) / 2
+}
+
+// How many blocks the grid has.
+pub fn blocks(s: Settings) -> usize
+    requires { ⌜ T (permitted s) ⌝ }
+    ensures { λ count. ⌜ count ≡ blocks s ⌝ }
+{
+    half(s.k as usize)
+}
+
+// How many names the grid has: one for each block, and one for each of the k places on the edge.
+pub fn names(s: Settings) -> usize
+    requires { ⌜ T (permitted s) ⌝ }
+    ensures { λ count. ⌜ count ≡ names s ⌝ }
+{
+    blocks(s) + s.k as usize
+}
+
+// How many marks the grid needs, all blocks together.
+pub fn marks_needed(s: Settings) -> usize
+    requires { ⌜ T (permitted s) ⌝ }
+    ensures { λ count. ⌜ count ≡ marksNeeded s ⌝ }
+{
+    let blocks = blocks(s);
+    let width = s.width() as usize;
+    blocks * width
+}
+
+// The number of the place at (r, c) in the triangle of side k - less, counted row after row.
+fn place_number(s: Settings, less: u8, r: u8, c: u8) -> usize
+    requires { ⌜ T (permitted s) × (r + c + less ≤ s .k) ⌝ }
+    ensures { λ number. ⌜ number ≡ placeNumber (s .k - less) r c ⌝ }
+{
+    let side = (s.k - less) as usize;
+    r as usize * side - half(r as usize) + c as usize
+}
+
+// The number of the block at (r, c): the blocks are the triangle of side k - 1.
+pub fn block_number(s: Settings, r: u8, c: u8) -> usize
+    requires { ⌜ T (permitted s) × (r + c + 2 ≤ s .k) ⌝ }
+    ensures { λ number. ⌜ number ≡ blockNumber s r c ⌝ }
+{
+    place_number(s, 1, r, c)
+}
+
+// The name at (r, c): the places that can be held are the triangle of side k.
+pub fn name_at(s: Settings, r: u8, c: u8) -> Name
+    requires { ⌜ T (permitted s) × (r + c + 1 ≤ s .k) ⌝ }
+    ensures { λ name. ⌜ name ≡ nameAt s r c ⌝ }
+{
+    Name(place_number(s, 0, r, c) as u16)
+}
+
+// Where a mark of a block stands in the row of marks, block after block.
+pub fn mark_index(s: Settings, block: usize, place: usize) -> usize
+    requires { ⌜ T (permitted s) × ((block < blocks s) × (place < width s)) ⌝ }
+    ensures { λ index. ⌜ index ≡ markIndex s block place ⌝ }
+{
+    let width = s.width() as usize;
+    block * width + place
+}
+
+// Which of its block's marks is the task's own: the one mark one-time, its own long-lived.
+pub fn own(s: Settings, task: TaskId) -> usize
+    ensures { λ place. ⌜ place ≡ own s (task .0) ⌝ }
+{
+    if s.mode == 0 {
+        return 0;
+    }
+    task.0 as usize
+}
