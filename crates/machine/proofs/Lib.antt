@@ -1,4 +1,6 @@
--- Laws of the base that belong to no one function.
+-- Laws and theorems of the base that belong to no one function.
+
+-- tests and numbers
 pub mod Tests
 pub mod Bools
 pub mod Limits
@@ -6,5 +8,45 @@ pub mod Ranges
 pub mod Turning
 pub mod Triangle
 pub mod Searching
+-- the table of 01's edges
 pub mod Fresh
 pub mod Edges
+-- demands 1 and 2: refusals, the one access, surplus
+pub mod Cells
+pub mod Deciding
+pub mod Lines
+pub mod BadValue
+pub mod Refusing
+pub mod Passing
+pub mod Rules
+pub mod OneAccess
+pub mod Effects
+pub mod Surplus
+pub mod SettingUp
+-- demand 3: `Demand3` is where to begin
+pub mod Counting
+pub mod Cover
+pub mod Stands
+pub mod Moves
+pub mod Marks
+pub mod Witnesses
+pub mod Holders
+pub mod Covered
+pub mod Invariant
+pub mod Arriving
+pub mod Seen
+pub mod Sound
+pub mod Steps
+pub mod Outcomes
+pub mod Histories
+pub mod Names
+pub mod Told
+pub mod Seekers
+pub mod Spent
+pub mod Served
+pub mod Leads
+pub mod WorstTurns
+pub mod Laps
+pub mod WorstRun
+pub mod Exact
+pub mod Demand3

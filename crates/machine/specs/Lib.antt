@@ -10,6 +10,12 @@ pub mod Calls
 pub mod History
 pub mod File
 pub mod Listing
+-- What is promised of them.
 pub mod Worst
 pub mod Demands
 pub mod Edges
+pub mod Refusing
+pub mod Rules
+pub mod OneAccess
+pub mod Surplus
+pub mod SettingUp

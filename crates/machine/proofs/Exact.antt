@@ -1,0 +1,81 @@
+-- Demand 3, "For each permitted mode, N and k some sequence makes one task need exactly that many": the worst schedule does, with task 0; and setup takes
+-- a memory with rows long enough, so that there is a history to speak of.
+use mathlib.Core.Path.{sym, subst, _∙_}
+use mathlib.Core.List.{List}
+use Prim.Native.Nat.{ℕ, _≤_}
+use native.Mathlib.Nat.{mul-le-mul, mul-le-mul-right}
+use native.Mathlib.Omega.{arith}
+use lib.Dec.{T}
+use lib.ListN.{length, replicate, length-replicate}
+use borrow.Author.Tests.{le-ltb, not-false}
+use Rattle.machine.specs.Settings.{permitted}
+use Rattle.machine.specs.Places.{half, blocks}
+use Rattle.machine.specs.Records.{idle, isSeeking}
+use Rattle.machine.specs.Memory.{Memory, marksNeeded, stateOf}
+use Rattle.machine.specs.Answers.{isAccepted}
+use Rattle.machine.specs.Calls.{Outcome, call, setup}
+use Rattle.machine.specs.Listing.{largest}
+use Rattle.machine.specs.Worst.{turn, worst}
+use Rattle.machine.specs.Demands.{SetUp, memoryAfter, historyOf, Seeks, HoldsSome, allAccepted, NeedsBound}
+use Rattle.machine.specs.declared.Settings.{Settings}
+use Rattle.machine.specs.declared.Event.{Event}
+use Rattle.machine.proofs.Bools.{is-true}
+use Rattle.machine.proofs.Limits.{limits, width-most}
+use Rattle.machine.proofs.Triangle.{half-square}
+use Rattle.machine.proofs.Fresh.{setup-permitted}
+use Rattle.machine.proofs.Outcomes.{Called, taken, refused, called}
+use Rattle.machine.proofs.Histories.{always-fine}
+use Rattle.machine.proofs.Leads.{last-accepted, used-written}
+use Rattle.machine.proofs.WorstTurns.{worst-turns, worst-last}
+use Rattle.machine.proofs.WorstRun.{worst-run}
+
+-- ---- the worst schedule
+
+-- a turn that is accepted was a seeking task's
+turn-accepted-seeks : (s : Settings) (lent : Memory) (ok : SetUp s lent) (events : List Event) (p : ℕ)
+    → T (isAccepted (call s (turn p) (memoryAfter s lent events) .answer)) → Seeks (memoryAfter s lent events) p
+turn-accepted-seeks s lent ok events p =
+    go (call s (turn p) (memoryAfter s lent events))
+    (called s (setup-permitted s lent ok) (turn p) (memoryAfter s lent events) (always-fine s lent ok events .good .sound))
+  where
+    go : (outcome : Outcome) → Called s (turn p) (memoryAfter s lent events) outcome → T (isAccepted (outcome .answer)) → Seeks (memoryAfter s lent events) p
+    go outcome (refused why) t = absurd t
+    go outcome (taken o) t = rw (not-false (isSeeking (stateOf (memoryAfter s lent events) p)) (o .moment)) tt
+
+pub worst-needs-bound : (s : Settings) (lent : Memory) → SetUp s lent → NeedsBound s lent (worst s)
+worst-needs-bound s lent ok =
+    let bounds = limits s (setup-permitted s lent ok) in
+    let foot = worst-run s lent ok in
+    let end = worst-last s bounds in
+    record {
+      accepted = foot .leads .accepted;
+      before = end .ends .before;
+      last = end .last;
+      split = end .ends .split;
+      its = end .its;
+      late = λ more. turn-accepted-seeks s lent ok (end .ends .before) 0 (subst (λ (event : Event). T (isAccepted (call s event (memoryAfter s lent (end .ends .before)) .answer))) (end .late more)
+          (last-accepted s (end .ends .before) (end .last) (setup s lent .memory) (subst (λ (events : List Event). T (allAccepted (historyOf s lent events))) (end .ends .split) (foot .leads .accepted))));
+      holds = subst (λ (m : Memory). HoldsSome m 0) (sym (foot .leads .ends)) (rw (foot .holds) tt);
+      exactly = used-written s 0 (worst s) (setup s lent .memory) 0 (foot .leads .accepted) ∙ worst-turns s bounds;
+    }
+
+-- ---- setup
+
+pub setup-takes-long-rows : (s : Settings) (m : Memory) → T (permitted s) → s .n ≤ length (m .records) → blocks s ≤ length (m .xs)
+    → marksNeeded s ≤ length (m .marks) → SetUp s m
+setup-takes-long-rows s m fair a b c =
+    rw (is-true (permitted s) fair, le-ltb (length (m .records)) (s .n) a, le-ltb (length (m .xs)) (blocks s) b, le-ltb (length (m .marks)) (marksNeeded s) c)
+
+-- k(k-1)/2 is at most 120
+half-most : (k : ℕ) → k ≤ 16 → half k ≤ 120
+half-most k l = let square = half-square k in omega (arith, mul-le-mul-right k l)
+
+long : {A : Type 0} (n : ℕ) (a : A) (need : ℕ) → need ≤ n → need ≤ length (replicate n a)
+long n a need l = rw (length-replicate n a) l
+
+pub setup-takes-largest : (s : Settings) → T (permitted s) → SetUp s largest
+setup-takes-largest s fair =
+    let bounds = limits s fair in
+    let few = half-most (s .k) (bounds .k-most) in
+    setup-takes-long-rows s largest fair (long 256 idle (s .n) (bounds .n-most)) (long {A = ℕ} 120 0 (blocks s) few)
+    (long {A = ℕ} 30720 0 (marksNeeded s) (mul-le-mul few (width-most s bounds)))

@@ -1,0 +1,33 @@
+-- Demand 3, "No turn of a seeking task is refused": J0 has tests 1 to 3 pass, and 4 to 7 ask nothing more of the turn of a task that seeks.
+use mathlib.Core.Path.{_≡_, refl}
+use mathlib.Core.Bool.{false, not}
+use mathlib.Core.List.{List}
+use Prim.Native.Nat.{ℕ, _<_}
+use lib.Dec.{T}
+use Rattle.machine.specs.Records.{isSeeking}
+use Rattle.machine.specs.Memory.{Memory, stateOf}
+use Rattle.machine.specs.Answers.{isAccepted}
+use Rattle.machine.specs.Calls.{call}
+use Rattle.machine.specs.Worst.{turn}
+use Rattle.machine.specs.Demands.{SetUp, memoryAfter, Seeks}
+use Rattle.machine.specs.declared.Settings.{Settings}
+use Rattle.machine.specs.declared.State.{State}
+use Rattle.machine.specs.declared.State.the-variants.{Idle, Seeking, Holding}
+use Rattle.machine.specs.declared.Event.{Event}
+use Rattle.machine.proofs.Fresh.{setup-permitted}
+use Rattle.machine.proofs.Outcomes.{Open, accepted-answer, open-accepted}
+use Rattle.machine.proofs.Histories.{always-fine}
+
+pub seeker-open : (s : Settings) (m : Memory) (p : ℕ) → p < s .n → T (isSeeking (stateOf m p)) → Open s (turn p) m
+seeker-open s m p l t = record { below = l; releases = refl; moment = seeking (stateOf m p) t; room = refl }
+  where
+    seeking : (state : State) → T (isSeeking state) → not (isSeeking state) ≡ false
+    seeking Idle t = absurd t
+    seeking (Seeking r c point) t = refl
+    seeking (Holding r c) t = absurd t
+
+pub seeker-accepted : (s : Settings) (lent : Memory) (events : List Event) → SetUp s lent → (p : ℕ) → p < s .n → Seeks (memoryAfter s lent events) p
+    → T (isAccepted (call s (turn p) (memoryAfter s lent events) .answer))
+seeker-accepted s lent events ok p l t =
+    let m = memoryAfter s lent events in
+    rw (open-accepted s (setup-permitted s lent ok) (turn p) m (always-fine s lent ok events .good .sound) (seeker-open s m p l t), accepted-answer s (turn p) m) tt
