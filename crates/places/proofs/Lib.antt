@@ -1,3 +1,2 @@
--- Laws of the settings and of the counts, for this crate and those above it.
-pub mod Limits
+-- Laws of the counts, for this crate and those above it.
 pub mod Counts

@@ -1,5 +1,6 @@
+-- The count of blocks is the definition's, by what `half` ensures of k, which is at most 16.
 use native.Mathlib.Omega.{arith}
-use Rattle.places.proofs.Limits.{limits}
+use Rattle.machine.proofs.Limits.{limits}
 use Rattle.machine.proofs.Tests.{tests}
 use Rattle.places.proofs.blocks.Statement.{statement}
 use Rattle.places.proofs.blocks.Tie as tie
@@ -8,10 +9,12 @@ cast-half : tie.Need-cast-half
 cast-half c = search tests
 
 half-requires : tie.Need-half-requires
-half-requires c κs = let limit = limits (c .before .args .s) (c .before .pre) in omega arith
+half-requires c κs =
+    let limit = limits (c .before .args .s) (c .before .pre) in
+    omega arith
 
 returns : tie.Need-returns
-returns c = search tests
+returns c = c .half .ensures
 
 pub blocks-spec : {M : Type 1} → statement M
 blocks-spec = tie.close (tie.spec cast-half half-requires returns)

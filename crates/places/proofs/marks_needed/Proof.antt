@@ -1,7 +1,8 @@
+-- The count of marks is the definition's: so many blocks, of so many marks each.
 use native.Mathlib.Omega.{arith}
-use Rattle.places.proofs.Counts.{product-fits, blocks-few}
-use Rattle.places.proofs.Limits.{limits}
+use Rattle.machine.proofs.Limits.{limits, width-most}
 use Rattle.machine.proofs.Tests.{tests}
+use Rattle.places.proofs.Counts.{product-fits, blocks-most, marks-of}
 use Rattle.places.proofs.marks_needed.Statement.{statement}
 use Rattle.places.proofs.marks_needed.Tie as tie
 
@@ -15,10 +16,14 @@ cast-width : tie.Need-cast-width
 cast-width c = search tests
 
 mul-result : tie.Need-mul-result
-mul-result c = let limit = limits (c .before .before .args .s) (c .before .before .pre) in let few = blocks-few (c .before .before .args .s) (c .before .before .pre) in product-fits _ _ (omega arith) (omega arith)
+mul-result c =
+    let limit = limits (c .before .before .args .s) (c .before .before .pre) in
+    let few = blocks-most _ limit in
+    let wide = width-most _ limit in
+    product-fits _ _ (omega arith) (omega arith)
 
 returns : tie.Need-returns
-returns c = rw (c .before .blocks2 .ensures, c .width .ensures)
+returns c = marks-of (c .before .before .args .s) _ _ (c .before .blocks2 .ensures) (c .width .ensures)
 
 pub marks-needed-spec : {M : Type 1} → statement M
 marks-needed-spec =

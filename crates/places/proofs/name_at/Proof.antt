@@ -1,11 +1,12 @@
+-- The name of a place is the definition's, by what `place_number` ensures at k.
 use mathlib.Core.Path.{_≡_, ap}
 use Prim.Native.Nat.{ℕ}
 use native.Mathlib.Omega.{arith}
-use Rattle.places.proofs.Limits.{limits}
 use Rattle.machine.specs.Places.{placeNumber}
 use Rattle.machine.specs.Calls.{nameAt}
 use Rattle.machine.specs.declared.Settings.{Settings}
 use Rattle.machine.specs.declared.Name.{Name}
+use Rattle.machine.proofs.Limits.{limits}
 use Rattle.places.proofs.Counts.{place-number-fits}
 use Rattle.places.proofs.name_at.Statement.{statement}
 use Rattle.places.proofs.name_at.Tie as tie
@@ -18,10 +19,14 @@ place-number-requires : tie.Need-place-number-requires
 place-number-requires c κs = (c .pre .0, omega arith)
 
 cast-t5 : tie.Need-cast-t5
-cast-t5 c = let limit = limits (c .before .args .s) (c .before .pre .0) in rw (c .place-number .ensures) (place-number-fits _ _ _ (omega arith) (omega arith))
+cast-t5 c =
+    let limit = limits (c .before .args .s) (c .before .pre .0) in
+    rw (c .place-number .ensures) (place-number-fits _ _ _ (omega arith) (omega arith))
 
 returns : tie.Need-returns
-returns c = rw (c .place-number .ensures) (named-in-triangle (c .before .args .s) _ _ _ (omega arith))
+returns c =
+    let a = c .before .args in
+    rw (c .place-number .ensures) (named-in-triangle (a .s) _ (a .r) (a .c) (omega arith))
 
 pub name-at-spec : {M : Type 1} → statement M
 name-at-spec = tie.close (tie.spec place-number-requires cast-t5 returns)

@@ -1,3 +1,4 @@
+-- The own mark's place is the definition's: each return is decided by the test of the mode.
 use Rattle.machine.proofs.Tests.{tests}
 use Rattle.places.proofs.own.Statement.{statement}
 use Rattle.places.proofs.own.Tie as tie

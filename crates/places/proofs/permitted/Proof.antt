@@ -1,3 +1,4 @@
+-- The test of the settings is the definition's `permitted`: each return is decided by the tests before it.
 use Rattle.machine.proofs.Tests.{tests}
 use Rattle.places.proofs.permitted.Statement.{statement}
 use Rattle.places.proofs.permitted.Tie as tie

@@ -1,9 +1,11 @@
+-- The number of a place is the definition's: the difference does not fall below 0 (`half-below`).
 use Prim.Native.Nat.{_-_}
 use native.Mathlib.Omega.{arith}
-use Rattle.places.proofs.Limits.{limits}
 use Rattle.machine.specs.Places.{placeNumber}
-use Rattle.places.proofs.Counts.{product-small, product-fits, half-in-row}
+use Rattle.machine.proofs.Limits.{limits}
+use Rattle.machine.proofs.Triangle.{half-below}
 use Rattle.machine.proofs.Tests.{tests}
+use Rattle.places.proofs.Counts.{product-small, product-fits}
 use Rattle.places.proofs.place_number.Statement.{statement}
 use Rattle.places.proofs.place_number.Tie as tie
 
@@ -14,16 +16,22 @@ cast-side : tie.Need-cast-side
 cast-side c = search tests
 
 mul-result : tie.Need-mul-result
-mul-result c = let limit = limits (c .before .args .s) (c .before .pre .0) in product-fits _ _ (omega arith) (omega arith)
+mul-result c =
+    let limit = limits (c .before .args .s) (c .before .pre .0) in
+    product-fits _ _ (omega arith) (omega arith)
 
 half-requires : tie.Need-half-requires
-half-requires c κs = let limit = limits (c .before .args .s) (c .before .pre .0) in omega arith
+half-requires c κs =
+    let limit = limits (c .before .args .s) (c .before .pre .0) in
+    omega arith
 
 sub-result : tie.Need-sub-result
-sub-result c = rw (c .half .ensures) (half-in-row _ _ (omega arith))
+sub-result c = rw (c .half .ensures) (half-below _ _ (omega arith))
 
 add-result : tie.Need-add-result
-add-result c = let limit = limits (c .before .before .args .s) (c .before .before .pre .0) in omega (arith, product-small (c .before .before .args .r) (c .before .before .args .s .k - c .before .before .args .less) (omega arith) (omega arith))
+add-result c =
+    let limit = limits (c .before .before .args .s) (c .before .before .pre .0) in
+    omega (arith, product-small (c .before .before .args .r) (c .before .before .args .s .k - c .before .before .args .less) (omega arith) (omega arith))
 
 returns : tie.Need-returns
 unfolding placeNumber
