@@ -1,0 +1,81 @@
+-- What it says of the rows that none is short, and what it says that the tests of what is lent pass.
+use mathlib.Core.Path.{_≡_, refl, ap, _∙_}
+use mathlib.Core.Bool.{Bool, true, false, not, _||_, cond}
+use mathlib.Core.List.{List, []}
+use Prim.Native.Nat.{ℕ, _≤_}
+use native.Mathlib.Omega.{arith}
+use lib.Dec.{T, ltb}
+use lib.ListN.{length}
+use borrow.Author.Tests.{ltb-false}
+use Rattle.machine.specs.Settings.{permitted}
+use Rattle.machine.specs.Places.{blocks}
+use Rattle.machine.specs.Memory.{marksNeeded, badX, badMark}
+use Rattle.machine.specs.Refusals.{first, outsideLimits, rowShort, lentCases, rangeCases, taskCases, verdict}
+use Rattle.machine.specs.declared.Settings.{Settings}
+use Rattle.machine.specs.declared.View.{View}
+use Rattle.machine.specs.declared.Kind.{Kind}
+use Rattle.machine.specs.declared.Refusal.{Refusal}
+use Rattle.machine.specs.declared.Verdict.{Verdict}
+
+none-of-three : (a b c : Bool) → a || (b || c) ≡ false → (a ≡ false) × (b ≡ false) × (c ≡ false)
+none-of-three true b c e = absurd (let z : _≡_ {A = ℕ} 0 1 = cc in omega arith)
+none-of-three false true c e = absurd (let z : _≡_ {A = ℕ} 0 1 = cc in omega arith)
+none-of-three false false c e = (refl, refl, e)
+
+-- the rows have at least what is needed
+pub record Long (s : Settings) (records : ℕ) (xs marks : List ℕ) : Type 0 where
+  pub records-long : s .n ≤ records
+  pub xs-long : blocks s ≤ length xs
+  pub marks-long : marksNeeded s ≤ length marks
+
+pub none-short : (s : Settings) (records : ℕ) (xs marks : List ℕ) → rowShort s records xs marks ≡ false → Long s records xs marks
+none-short s records xs marks e =
+    let each = none-of-three (ltb records (s .n)) (ltb (length xs) (blocks s)) (ltb (length marks) (marksNeeded s)) e in
+    record {
+      records-long = ltb-false records (s .n) (each .0);
+      xs-long = ltb-false (length xs) (blocks s) (each .1);
+      marks-long = ltb-false (length marks) (marksNeeded s) (each .2);
+    }
+
+-- the two tests of what is lent pass
+pub record Lent (s : Settings) (seen : View) (xs marks : List ℕ) : Type 0 where
+  pub limits : T (permitted s)
+  pub rows : rowShort s (seen .length) xs marks ≡ false
+
+lent-of : (ok short : Bool) (why other : Refusal) → cond (not ok) (Verdict.Refused why) (cond short (Verdict.Refused other) Verdict.Accepted) ≡ Verdict.Accepted
+    → T ok × (short ≡ false)
+lent-of false short why other e = absurd (let z : _≡_ {A = ℕ} 0 1 = cc in omega arith)
+lent-of true true why other e = absurd (let z : _≡_ {A = ℕ} 0 1 = cc in omega arith)
+lent-of true false why other e = (tt, refl)
+
+pub lent-passes : (s : Settings) (seen : View) (xs marks : List ℕ) → first (lentCases s seen xs marks []) ≡ Verdict.Accepted → Lent s seen xs marks
+lent-passes s seen xs marks e =
+    let both = lent-of (permitted s) (rowShort s (seen .length) xs marks) Refusal.Limits Refusal.ShortRow e in
+    record { limits = both .0; rows = both .1 }
+
+-- ---- the verdict by its three parts
+
+-- a first verdict, and if it accepts, a second
+abbrev pub then : Verdict → Verdict → Verdict
+then Verdict.Accepted later = later
+then (Verdict.Refused why) later = Verdict.Refused why
+
+two-then : (a b : Bool) (x y : Refusal) (later : Verdict)
+    → cond a (Verdict.Refused x) (cond b (Verdict.Refused y) later) ≡ then (cond a (Verdict.Refused x) (cond b (Verdict.Refused y) Verdict.Accepted)) later
+two-then true b x y later = refl
+two-then false true x y later = refl
+two-then false false x y later = refl
+
+three-then : (a b c : Bool) (x y z : Refusal) (later : Verdict)
+    → cond a (Verdict.Refused x) (cond b (Verdict.Refused y) (cond c (Verdict.Refused z) later))
+    ≡ then (cond a (Verdict.Refused x) (cond b (Verdict.Refused y) (cond c (Verdict.Refused z) Verdict.Accepted))) later
+three-then true b c x y z later = refl
+three-then false b c x y z later = two-then b c y z later
+
+pub verdict-parts : (s : Settings) (kind : Kind) (p : ℕ) (seen : View) (xs marks : List ℕ)
+    → verdict s kind p seen xs marks
+    ≡ then (first (lentCases s seen xs marks [])) (then (first (rangeCases s seen xs marks [])) (first (taskCases s kind p seen)))
+verdict-parts s kind p seen xs marks =
+    two-then (outsideLimits s) (rowShort s (seen .length) xs marks) Refusal.Limits Refusal.ShortRow (first (rangeCases s seen xs marks (taskCases s kind p seen)))
+    ∙ ap (then (first (lentCases s seen xs marks [])))
+    (three-then (ltb (seen .bad) (s .n)) (ltb (badX s xs) (blocks s)) (ltb (badMark s marks) (marksNeeded s)) _ _ _ (first (taskCases s kind p seen)))

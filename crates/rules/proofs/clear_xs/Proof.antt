@@ -1,0 +1,63 @@
+-- `clear_xs` fills from the front: after i turns the first i are 0 and the rest is as it was.
+use mathlib.Core.Path.{_≡_}
+use Prim.Native.Nat.{_-_, _≤_}
+use native.Mathlib.Omega.{arith}
+use borrow.Author.Fill.{fill-none, fill-more}
+use lib.ListN.{length, length-set}
+use denote.Ref.{now}
+use Rattle.machine.specs.Memory.{fill}
+use Rattle.machine.proofs.Tests.{tests}
+use Rattle.rules.proofs.clear_xs.Statement.{statement}
+use Rattle.rules.proofs.clear_xs.Tie as tie
+
+abbrev Inv-loop : tie.InvT-loop
+Inv-loop xs₀ n i₀ xs i = (i ≤ n) × (xs ≡ fill i 0 xs₀) × (length xs ≡ length xs₀)
+
+abbrev μ-loop : tie.MeasureT-loop
+μ-loop xs₀ n i₀ xs i = n - i
+
+loop-holds : tie.Need-loop-holds Inv-loop μ-loop
+loop-holds c = search tests
+
+mul-xs : tie.Need-mul-xs Inv-loop μ-loop
+mul-xs c = search tests
+
+slice-write-xs : tie.Need-slice-write-xs Inv-loop μ-loop
+slice-write-xs c = search tests
+
+add-i : tie.Need-add-i Inv-loop μ-loop
+add-i c = search tests
+
+loop-less : tie.Need-loop-less Inv-loop μ-loop
+loop-less c = search tests
+
+loop-again : tie.Need-loop-again Inv-loop μ-loop
+loop-again c =
+    let row = now (c .before .before .args .xs) in
+    let at = c .before .loop in
+    (search tests, rw (at .inv .1) (fill-more (at .i) 0 row (omega arith)), simp length-set (at .inv .2))
+
+same-length : tie.Need-same-length Inv-loop μ-loop
+same-length c = search tests
+
+returns : tie.Need-returns Inv-loop μ-loop
+returns c =
+    let at = c .before .loop in
+    let most = at .inv .0 in
+    let last : at .i ≡ c .before .before .args .n = omega arith in
+    rw last at (at .inv .1)
+
+pub clear-xs-spec : {M : Type 1} → statement M
+clear-xs-spec =
+    tie.close
+    (tie.spec
+    Inv-loop
+    μ-loop
+    loop-holds
+    mul-xs
+    slice-write-xs
+    add-i
+    loop-less
+    loop-again
+    same-length
+    returns)

@@ -1,0 +1,99 @@
+-- `turn` decides as the definition says: a refusal puts the record back; an accepted turn makes the one access of the record, and the value read
+-- gives the next.
+use mathlib.Core.Path.{_≡_, _∙_, sym, ap}
+use denote.Ref.{now}
+use Rattle.machine.specs.Refusals.{verdict}
+use Rattle.machine.specs.declared.Kind.{Kind}
+use Rattle.machine.specs.declared.Verdict.{Verdict}
+use Rattle.machine.proofs.Limits.{limits}
+use Rattle.machine.proofs.Sound.{next-in-range}
+use Rattle.rules.specs.Decision.{rows, Touched, touching}
+use Rattle.rules.proofs.Touching.{turn-needed}
+use Rattle.rules.proofs.Deciding.{turn-decided}
+use Rattle.rules.proofs.Accepting.{accepts, own-in-range}
+use Rattle.machine.proofs.Tests.{tests}
+use Rattle.rules.proofs.turn.Statement.{statement}
+use Rattle.rules.proofs.turn.Tie as tie
+
+verdict-requires : tie.Need-verdict-requires
+verdict-requires c κs = search tests
+
+enum-known-why : tie.Need-enum-known-why
+enum-known-why c = search tests
+
+enum-told : tie.Need-enum-told
+enum-told c = search tests
+
+turn-access-requires : tie.Need-turn-access-requires
+turn-access-requires c κs =
+    let a = c .before .before .before .before .before .before .before .before .args in
+    let ok = accepts (a .s) Kind.Turn (a .task .0) (a .seen) (now (a .xs)) (now (a .marks)) (sym (c .before .before .verdict .ensures) ∙ c .enum-told .given .1) in
+    let good = own-in-range (a .s) Kind.Turn (a .task .0) (a .seen) (now (a .xs)) (now (a .marks)) (c .before .before .before .before .before .before .before .before .pre) ok in
+    (ok .limits, good)
+
+touch-requires : tie.Need-touch-requires
+touch-requires c κs =
+    let a = c .before .before .before .before .before .before .before .before .before .before .before .args in
+    let ok = accepts (a .s) Kind.Turn (a .task .0) (a .seen) (now (a .xs)) (now (a .marks)) (sym (c .before .before .before .before .before .verdict .ensures) ∙ c .before .before .before .enum-told .given .1) in
+    let good = own-in-range (a .s) Kind.Turn (a .task .0) (a .seen) (now (a .xs)) (now (a .marks)) (c .before .before .before .before .before .before .before .before .before .before .before .pre) ok in
+    (ok .limits, rw (c .before .before .turn-access .ensures) (turn-needed (a .s) (a .task .0) (ok .limits) (ok .known) (a .seen .own .state) good), ok .long .xs-long, ok .long .marks-long)
+
+turned-requires : tie.Need-turned-requires
+turned-requires c κs =
+    let a = c .before .before .before .before .before .before .before .before .before .before .before .before .before .before .before .before .args in
+    let ok = accepts (a .s) Kind.Turn (a .task .0) (a .seen) (now (a .xs)) (now (a .marks)) (sym (c .before .before .before .before .before .before .before .before .before .before .verdict .ensures) ∙ c .before .before .before .before .before .before .before .before .enum-told .given .1) in
+    let good = own-in-range (a .s) Kind.Turn (a .task .0) (a .seen) (now (a .xs)) (now (a .marks)) (c .before .before .before .before .before .before .before .before .before .before .before .before .before .before .before .before .pre) ok in
+    good
+
+standing-requires : tie.Need-standing-requires
+standing-requires c κs =
+    let a = c .before .before .before .before .before .before .before .before .before .before .before .before .before .before .before .before .before .args in
+    let ok = accepts (a .s) Kind.Turn (a .task .0) (a .seen) (now (a .xs)) (now (a .marks)) (sym (c .before .before .before .before .before .before .before .before .before .before .before .verdict .ensures) ∙ c .before .before .before .before .before .before .before .before .before .enum-told .given .1) in
+    let good = own-in-range (a .s) Kind.Turn (a .task .0) (a .seen) (now (a .xs)) (now (a .marks)) (c .before .before .before .before .before .before .before .before .before .before .before .before .before .before .before .before .before .pre) ok in
+    let access = c .before .before .before .before .before .touch .ensures ∙ ap (λ t. touching (a .s) t (rows (now (a .xs)) (now (a .marks)))) (c .before .before .before .before .before .before .before .before .turn-access .ensures) in
+    let read = ap (λ (t : Touched). t .value) access in
+    let next = next-in-range (a .s) (limits (a .s) (ok .limits)) Kind.Turn (a .task .0) (a .seen .own .state) (rows (now (a .xs)) (now (a .marks))) (ok .moment) good in
+    (ok .limits, rw (c .turned .ensures, read) next)
+
+same-length : tie.Need-same-length
+same-length c = search tests
+
+same-length-2 : tie.Need-same-length-2
+same-length-2 c = search tests
+
+returns : tie.Need-returns
+returns c =
+    let a = c .before .before .before .before .before .before .before .before .before .args in
+    let refused : verdict (a .s) Kind.Turn (a .task .0) (a .seen) (now (a .xs)) (now (a .marks)) ≡ Verdict.Refused _ = sym (c .before .before .before .verdict .ensures) ∙ c .before .why .given .1 in
+    rw refused
+
+same-length-3 : tie.Need-same-length-3
+same-length-3 c = search tests
+
+same-length-4 : tie.Need-same-length-4
+same-length-4 c = search tests
+
+returns-2 : tie.Need-returns-2
+returns-2 c =
+    let a = c .before .before .before .before .before .before .before .before .before .before .before .before .before .before .before .before .before .before .args in
+    let accepted = sym (c .before .before .before .before .before .before .before .before .before .before .before .before .verdict .ensures) ∙ c .before .before .before .before .before .before .before .before .before .before .enum-told .given .1 in
+    let access = c .before .before .before .before .before .before .touch .ensures ∙ ap (λ t. touching (a .s) t (rows (now (a .xs)) (now (a .marks)))) (c .before .before .before .before .before .before .before .before .before .turn-access .ensures) in
+    turn-decided (a .s) (a .task .0) (a .seen) (now (a .xs)) (now (a .marks)) _ _ _ _ _ accepted access (c .before .turned .ensures) (c .standing .ensures)
+
+pub turn-spec : {M : Type 1} → statement M
+turn-spec =
+    tie.close
+    (tie.spec
+    verdict-requires
+    enum-known-why
+    enum-told
+    turn-access-requires
+    touch-requires
+    turned-requires
+    standing-requires
+    same-length
+    same-length-2
+    returns
+    same-length-3
+    same-length-4
+    returns-2)
