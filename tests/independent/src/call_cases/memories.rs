@@ -1,0 +1,95 @@
+//! Arbitrary memories: values in range that no history need reach, and values out of range.
+
+use crate::calls::Memory;
+use crate::grid::{Direction, Grid, Place, Point, Record, Settings};
+use crate::random::Random;
+
+/// The places with r+c at most so much.
+pub fn places(diagonal: usize) -> Vec<Place> {
+    let place = |r: usize, c: usize| Place { r: r as u8, c: c as u8 };
+    (0..=diagonal).flat_map(|r| (0..=diagonal - r).map(move |c| place(r, c))).collect()
+}
+
+pub fn blocks(settings: Settings) -> Vec<Place> {
+    if settings.k() < 2 {
+        return Vec::new();
+    }
+    places(settings.k() - 2)
+}
+
+impl Random {
+    pub fn task(&mut self, settings: Settings) -> u16 {
+        self.below(settings.tasks()) as u16
+    }
+
+    /// Every point that is in range; the scan at the edges, at the task's own mark and anywhere.
+    pub fn points_of(&mut self, settings: Settings, p: u16) -> Vec<Point> {
+        let mut points = vec![Point::WriteX, Point::WriteMark, Point::ReadX, Point::Scan(0)];
+        if settings.long_lived() {
+            let anywhere = self.task(settings);
+            points.extend([p, settings.n - 1, anywhere].map(Point::Scan));
+            points.extend([Direction::Right, Direction::Down].map(Point::Clear));
+        }
+        points
+    }
+
+    pub fn record(&mut self, settings: Settings, idle_of_hundred: usize) -> Record {
+        let blocks = blocks(settings);
+        if self.percent(idle_of_hundred) {
+            Record::Idle
+        } else if blocks.is_empty() || self.percent(40) {
+            Record::Holding(self.pick(&places(settings.k() - 1)))
+        } else {
+            let p = self.task(settings);
+            let points = self.points_of(settings, p);
+            Record::Seeking(self.pick(&blocks), self.pick(&points))
+        }
+    }
+
+    /// A memory whose values are all in range, but that no history need reach.
+    pub fn memory(&mut self, settings: Settings) -> Memory {
+        let mut memory = Memory::idle(&Grid, settings);
+        let idle = self.pick(&[0, 30, 60, 95]);
+        let marked = self.pick(&[0, 5, 30, 80]);
+        for record in &mut memory.records {
+            *record = self.record(settings, idle);
+        }
+        for x in &mut memory.registers.x {
+            *x = self.between(0, settings.tasks()) as u16;
+        }
+        for mark in &mut memory.registers.marks {
+            *mark = u8::from(self.percent(marked));
+        }
+        memory
+    }
+
+    /// First, last and anywhere in a row of that length.
+    pub fn positions(&mut self, length: usize) -> Vec<usize> {
+        if length == 0 {
+            return Vec::new();
+        }
+        let mut positions = vec![0, self.below(length), length - 1];
+        positions.sort_unstable();
+        positions.dedup();
+        positions
+    }
+}
+
+/// Records that are out of range: places beyond the edge, also those whose sum in 8 bits would be
+/// small; scans beyond the last mark; and, one-time, what only the long-lived grid has.
+pub fn bad_records(settings: Settings) -> Vec<Record> {
+    let (mode, n, k) = (settings.mode, settings.n, settings.k);
+    let mut bad = Vec::new();
+    let seeking = [(0, k - 1), (k - 1, 0), (255, 1), (1, 255), (255, 255), (128, 128)];
+    bad.extend(seeking.map(|(r, c)| Record::Seeking(Place { r, c }, Point::WriteX)));
+    let holding = [(0, k), (k, 0), (255, 1), (1, 255), (255, 255), (128, 128)];
+    bad.extend(holding.map(|(r, c)| Record::Holding(Place { r, c })));
+    let points = if mode == 1 {
+        vec![Point::Scan(n), Point::Scan(n + 1), Point::Scan(65_535)]
+    } else {
+        let clears = [Direction::Right, Direction::Down].map(Point::Clear);
+        [Point::Scan(1), Point::Scan(n), Point::Scan(65_535)].into_iter().chain(clears).collect()
+    };
+    bad.extend(points.into_iter().map(|point| Record::Seeking(Place { r: 0, c: 0 }, point)));
+    bad
+}

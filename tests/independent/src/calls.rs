@@ -1,0 +1,207 @@
+//! The four calls of 01 on lent memory: their refusals, first number first, and their answers.
+
+use std::fmt;
+
+use crate::grid::{Identifier, Name, Place, Point, Record, Registers, Rules, Settings};
+use crate::refusal::{Refusal, Row};
+
+/// The lent rows. They may be longer than needed, and may hold anything.
+#[derive(Clone, PartialEq, Eq, Hash, Debug)]
+pub struct Memory {
+    pub records: Vec<Record>,
+    pub registers: Registers,
+}
+
+/// How long the rows must be.
+pub struct Needed {
+    pub records: usize,
+    pub x: usize,
+    pub marks: usize,
+}
+
+impl Needed {
+    pub fn new(rules: &dyn Rules, settings: Settings) -> Needed {
+        Needed {
+            records: settings.tasks(),
+            x: settings.blocks(),
+            marks: settings.blocks() * rules.marks_in_block(settings),
+        }
+    }
+
+    /// The number of values that each call tests.
+    pub fn values(&self) -> usize {
+        self.records + self.x + self.marks
+    }
+}
+
+impl Memory {
+    /// Rows of just the needed length, as setup leaves them.
+    pub fn idle(rules: &dyn Rules, settings: Settings) -> Memory {
+        let needed = Needed::new(rules, settings);
+        Memory {
+            records: vec![Record::Idle; needed.records],
+            registers: Registers { x: vec![0; needed.x], marks: vec![0; needed.marks] },
+        }
+    }
+}
+
+#[derive(Clone, Copy, PartialEq, Eq, Debug)]
+pub enum Answer {
+    Done,
+    Seeks,
+    Holds(Name),
+    Freed(Name),
+}
+
+/// As the listing prints it.
+impl fmt::Display for Answer {
+    fn fmt(&self, text: &mut fmt::Formatter) -> fmt::Result {
+        match self {
+            Answer::Done => text.write_str("done"),
+            Answer::Seeks => text.write_str("seeks"),
+            Answer::Holds(name) => write!(text, "holds {}", name.0),
+            Answer::Freed(name) => write!(text, "freed {}", name.0),
+        }
+    }
+}
+
+/// Setup tests 1 and 2.
+pub fn setup(
+    rules: &dyn Rules,
+    settings: Settings,
+    memory: &mut Memory,
+) -> Result<Answer, Refusal> {
+    let needed = test_rows(rules, settings, memory)?;
+    memory.records[..needed.records].fill(Record::Idle);
+    memory.registers.x[..needed.x].fill(0);
+    memory.registers.marks[..needed.marks].fill(0);
+    Ok(Answer::Done)
+}
+
+/// Ask tests 1 to 4, 6 and 7.
+pub fn ask(
+    rules: &dyn Rules,
+    settings: Settings,
+    id: Identifier,
+    memory: &mut Memory,
+) -> Result<Answer, Refusal> {
+    let p = test_task(rules, settings, id, memory)?;
+    if memory.records[p] != Record::Idle {
+        return Err(Refusal::WrongMoment);
+    }
+    let tasks = &memory.records[..settings.tasks()];
+    if tasks.iter().filter(|record| rules.counts(**record)).count() >= settings.k() {
+        return Err(Refusal::TooManyOut);
+    }
+    let start = Place { r: 0, c: 0 };
+    memory.records[p] = if settings.k() == 1 {
+        Record::Holding(start)
+    } else {
+        Record::Seeking(start, Point::WriteX)
+    };
+    Ok(seeks_or_holds(rules, settings, memory.records[p]))
+}
+
+/// Turn tests 1 to 4 and 6.
+pub fn turn(
+    rules: &dyn Rules,
+    settings: Settings,
+    id: Identifier,
+    memory: &mut Memory,
+) -> Result<Answer, Refusal> {
+    let p = test_task(rules, settings, id, memory)?;
+    let Record::Seeking(place, point) = memory.records[p] else {
+        return Err(Refusal::WrongMoment);
+    };
+    memory.records[p] = rules.turn(settings, p, place, point, &mut memory.registers);
+    Ok(seeks_or_holds(rules, settings, memory.records[p]))
+}
+
+/// Release tests 1 to 6.
+pub fn release(
+    rules: &dyn Rules,
+    settings: Settings,
+    id: Identifier,
+    memory: &mut Memory,
+) -> Result<Answer, Refusal> {
+    let p = test_task(rules, settings, id, memory)?;
+    if !settings.long_lived() {
+        return Err(Refusal::OneTimeRelease);
+    }
+    let Record::Holding(place) = memory.records[p] else {
+        return Err(Refusal::WrongMoment);
+    };
+    if settings.is_block(place) {
+        rules.release(settings, p, place, &mut memory.registers);
+    }
+    memory.records[p] = Record::Idle;
+    Ok(Answer::Freed(rules.name(settings, place)))
+}
+
+fn seeks_or_holds(rules: &dyn Rules, settings: Settings, record: Record) -> Answer {
+    match record {
+        Record::Holding(place) => Answer::Holds(rules.name(settings, place)),
+        _ => Answer::Seeks,
+    }
+}
+
+/// Tests 1 and 2: the settings, then the lengths of the rows.
+fn test_rows(rules: &dyn Rules, settings: Settings, memory: &Memory) -> Result<Needed, Refusal> {
+    if !settings.allowed() {
+        return Err(Refusal::Settings);
+    }
+    let needed = Needed::new(rules, settings);
+    if memory.records.len() < needed.records
+        || memory.registers.x.len() < needed.x
+        || memory.registers.marks.len() < needed.marks
+    {
+        return Err(Refusal::ShortRow);
+    }
+    Ok(needed)
+}
+
+/// Tests 1 to 4; an identifier that passes them is the index of a task.
+fn test_task(
+    rules: &dyn Rules,
+    settings: Settings,
+    id: Identifier,
+    memory: &Memory,
+) -> Result<usize, Refusal> {
+    let needed = test_rows(rules, settings, memory)?;
+    if let Some((row, index)) = first_out_of_range(rules, settings, &needed, memory) {
+        return Err(Refusal::OutOfRange { row, index });
+    }
+    let p = id.0 as usize;
+    if p >= settings.tasks() {
+        return Err(Refusal::Identifier);
+    }
+    Ok(p)
+}
+
+/// Test 3: the first needed value out of range: records, then X, then marks block by block.
+fn first_out_of_range(
+    rules: &dyn Rules,
+    settings: Settings,
+    needed: &Needed,
+    memory: &Memory,
+) -> Option<(Row, usize)> {
+    for (index, record) in memory.records[..needed.records].iter().enumerate() {
+        if !record.in_range(settings) {
+            return Some((Row::Records, index));
+        }
+    }
+    for (index, x) in memory.registers.x[..needed.x].iter().enumerate() {
+        if *x > settings.n {
+            return Some((Row::X, index));
+        }
+    }
+    let width = rules.marks_in_block(settings);
+    for (block, marks) in memory.registers.marks[..needed.marks].chunks(width).enumerate() {
+        // All the bits of the block's marks together tell quickly that none is above 1.
+        if marks.iter().fold(0, |bits, mark| bits | mark) > 1 {
+            let place = marks.iter().position(|mark| *mark > 1);
+            return place.map(|place| (Row::Marks, block * width + place));
+        }
+    }
+    None
+}

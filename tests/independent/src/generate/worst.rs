@@ -1,0 +1,90 @@
+//! The worst schedules of demand 3: one task needs exactly (N+4)(k-1) of its own turns in mode 1,
+//! 4(k-1) in mode 0.
+//!
+//! The k tasks of an order ask. In each row the tasks present write X in that order, scan, set
+//! their marks, read X and go down; only the last writer reads its own X. The first task of the
+//! order loses in all of the k-1 rows and uses the most turns.
+
+use super::Case;
+use crate::random::Random;
+use crate::schedule::{Event, Kind, MOST_EVENTS};
+use crate::Settings;
+
+/// What the last writer of each row does after its write of X.
+#[derive(Clone, Copy, PartialEq, Eq, Debug)]
+pub enum LastWriter {
+    /// Nothing more.
+    Stops,
+    /// It goes on with the others, reads its own X and holds.
+    Holds,
+}
+
+impl LastWriter {
+    pub const BOTH: [LastWriter; 2] = [LastWriter::Stops, LastWriter::Holds];
+}
+
+/// The order 0, 1, .., k-1.
+pub fn in_order(k: u8) -> Vec<u16> {
+    (0..u16::from(k)).collect()
+}
+
+/// The worst schedule of the first k tasks of an order, for its first task.
+pub fn worst_schedule(settings: Settings, order: &[u16], last: LastWriter) -> Vec<Event> {
+    let k = settings.k();
+    let scans = if settings.long_lived() { settings.tasks() } else { 1 };
+    let mut events: Vec<Event> =
+        order[..k].iter().map(|task| Event::new(Kind::Ask, *task)).collect();
+    let mut turns_of = |tasks: &[u16], rounds: usize| {
+        for _ in 0..rounds {
+            events.extend(tasks.iter().map(|task| Event::new(Kind::Turn, *task)));
+        }
+    };
+    for row in 0..k - 1 {
+        let present = &order[..k - row];
+        let losers = &order[..k - row - 1];
+        let going_on = if last == LastWriter::Holds { present } else { losers };
+        turns_of(present, 1); // write X
+        turns_of(going_on, scans);
+        turns_of(going_on, 1); // write mark
+        turns_of(going_on, 1); // read X
+        if settings.long_lived() {
+            turns_of(losers, 1); // clear, going down
+        }
+    }
+    events
+}
+
+/// The settings whose worst schedules are tried: all k, N from k on, and the greatest.
+pub fn settings() -> Vec<Settings> {
+    let mut all = Vec::new();
+    for mode in [0, 1] {
+        for k in 1..=16u8 {
+            let least = u16::from(k);
+            let sizes = [least, least + 1, least + 2, least + 3, 32, 64, 132, 255, 256];
+            all.extend(sizes.map(|n| Settings::new(mode, n, k)));
+        }
+    }
+    all
+}
+
+/// The worst schedules that fit a file: for task 0, and for the last task with the others in a
+/// random order.
+pub fn cases() -> Vec<Case> {
+    let mut random = Random::new(1);
+    let mut cases = Vec::new();
+    for settings in settings() {
+        let mut last_first: Vec<u16> = (0..settings.n).rev().collect();
+        random.shuffle(&mut last_first[1..]);
+        for (order, last) in
+            [(in_order(settings.k), LastWriter::Stops), (last_first, LastWriter::Holds)]
+        {
+            let events = worst_schedule(settings, &order, last);
+            if events.len() <= MOST_EVENTS {
+                let Settings { mode, n, k } = settings;
+                let label = format!("worst mode {mode} N {n} k {k}");
+                cases.push(Case::of_schedule(label, settings, &events));
+            }
+        }
+    }
+    cases
+}

@@ -1,0 +1,68 @@
+//! A setup and the calls after it, with what the end line of the listing counts.
+
+use crate::calls::{self, Answer, Memory};
+use crate::grid::{Record, Rules, Settings};
+use crate::refusal::Refusal;
+use crate::schedule::{Event, Kind};
+
+#[derive(Clone)]
+pub struct History<'a> {
+    rules: &'a dyn Rules,
+    pub settings: Settings,
+    pub memory: Memory,
+    /// For each task, the accepted turns since its last accepted ask.
+    pub turns: Vec<usize>,
+    /// The greatest number of holders after any event.
+    pub peak: usize,
+    /// The most accepted turns any completed acquisition used.
+    pub most: usize,
+}
+
+impl<'a> History<'a> {
+    /// An accepted setup on memory of just the needed length.
+    pub fn new(rules: &'a dyn Rules, settings: Settings) -> Result<History<'a>, Refusal> {
+        if !settings.allowed() {
+            return Err(Refusal::Settings);
+        }
+        let mut memory = Memory::idle(rules, settings);
+        calls::setup(rules, settings, &mut memory)?;
+        let turns = vec![0; settings.tasks()];
+        Ok(History { rules, settings, memory, turns, peak: 0, most: 0 })
+    }
+
+    /// Runs one event and keeps count.
+    pub fn call(&mut self, event: Event) -> Result<Answer, Refusal> {
+        let id = event.identifier();
+        let task = usize::from(event.id);
+        let call = match event.kind {
+            Kind::Ask => calls::ask,
+            Kind::Turn => calls::turn,
+            Kind::Free => calls::release,
+        };
+        let answer = call(self.rules, self.settings, id, &mut self.memory)?;
+        match event.kind {
+            Kind::Ask => self.turns[task] = 0,
+            Kind::Turn => self.turns[task] += 1,
+            Kind::Free => {}
+        }
+        if let Answer::Holds(_) = answer {
+            self.most = self.most.max(self.turns[task]);
+            self.peak = self.peak.max(self.holders());
+        }
+        Ok(answer)
+    }
+
+    pub fn record(&self, task: u16) -> Record {
+        self.memory.records[usize::from(task)]
+    }
+
+    pub fn holders(&self) -> usize {
+        let holds = |record: &&Record| matches!(record, Record::Holding(_));
+        self.memory.records.iter().filter(holds).count()
+    }
+
+    /// The tasks that seek or hold.
+    pub fn out(&self) -> usize {
+        self.memory.records.iter().filter(|record| **record != Record::Idle).count()
+    }
+}

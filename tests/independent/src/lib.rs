@@ -1,0 +1,21 @@
+//! The grid written a second time, from document 01 alone, to be compared with the proved program.
+//!
+//! The machine is `grid` (what an accepted call does), `calls` (who is refused and why), `schedule`
+//! (the file) and `listing` (the text). `shortcuts` holds the wrong grids that 01 warns of.
+//! `generate` makes schedules and damaged files from a seed; the rest are the commands.
+
+pub mod call_cases;
+pub mod calls;
+pub mod compare;
+pub mod generate;
+pub mod grid;
+pub mod history;
+pub mod invariants;
+pub mod listing;
+pub mod power;
+pub mod random;
+pub mod refusal;
+pub mod schedule;
+pub mod shortcuts;
+
+pub use grid::Settings;

@@ -1,0 +1,223 @@
+//! The commands; see `USAGE`. Those that check something print `N passed, M failed` last.
+
+use std::env;
+use std::fs;
+use std::io::{self, Read, Write};
+use std::path::PathBuf;
+use std::process::ExitCode;
+use std::time::{Instant, SystemTime, UNIX_EPOCH};
+
+use independent::generate::worst::{in_order, worst_schedule, LastWriter};
+use independent::grid::{Grid, Settings};
+use independent::listing::listing;
+use independent::schedule::{file_of, Event, Kind, MOST_EVENTS};
+use independent::shortcuts::rules_named;
+use independent::{call_cases, compare, invariants, power};
+
+const USAGE: &str = "\
+independent compare PROGRAM [--seed S] [--count C] [--seconds T] [-- ARGUMENTS...]
+    compares the listings of PROGRAM, started with the arguments, with the ones here
+independent fresh PROGRAM [--seconds T] [-- ARGUMENTS...]
+    the same with random cases only, of a seed from the clock, which it prints
+independent power [--seed S] [--count C]
+    shows that the schedules tell each shortcut from the grid
+independent invariants [--seed S] [--count C]
+    tries demand 3 on the grid here
+independent list FILE
+    prints the listing of a schedule file
+independent gridlist [--variant NAME]
+    prints the listing of standard input, by the grid or by a shortcut
+independent make MODE N K EVENTS...
+    writes a schedule file, e.g. make 1 2 2 ask 0 turn 0 free 0
+independent worst MODE N K
+    writes the worst schedule, or as much of it as fits a file
+independent calls [--seed S]
+    prints calls on arbitrary memories with their answers
+independent time FILE
+    prints the time that the listing of FILE takes here";
+
+const SEED: u64 = 1;
+// How many random cases `compare`, `power` and `invariants` run, and how long `fresh` runs.
+const COMPARED: u64 = 3_000;
+const TOLD: u64 = 1_000;
+const CHECKED: u64 = 2_000;
+const SECONDS: u64 = 60;
+
+fn main() -> ExitCode {
+    let arguments: Vec<String> = env::args().skip(1).collect();
+    let words: Vec<&str> = arguments.iter().map(String::as_str).collect();
+    match run(&words) {
+        Ok(code) => code,
+        Err(cause) => {
+            eprintln!("{cause}");
+            ExitCode::FAILURE
+        }
+    }
+}
+
+fn run(words: &[&str]) -> Result<ExitCode, String> {
+    match words {
+        ["compare", program, words @ ..] => compare_with(program, words),
+        ["fresh", program, words @ ..] => fresh_with(program, words),
+        ["power", options @ ..] => {
+            let options = Options::read(options, &["--seed", "--count"])?;
+            let count = options.count.unwrap_or(TOLD);
+            Ok(closing_line(power::run(options.seed.unwrap_or(SEED), count)))
+        }
+        ["invariants", options @ ..] => {
+            let options = Options::read(options, &["--seed", "--count"])?;
+            let count = options.count.unwrap_or(CHECKED);
+            Ok(closing_line(invariants::run(options.seed.unwrap_or(SEED), count)))
+        }
+        ["list", file] => print(listing(&Grid, &read_file(file)?).as_bytes()),
+        ["gridlist"] => list_input("grid"),
+        ["gridlist", "--variant", name] => list_input(name),
+        ["make", mode, n, k, events @ ..] => {
+            let file = file_of(settings(mode, n, k)?, &events_of(events)?);
+            print(&file.map_err(|refusal| refusal.to_string())?)
+        }
+        ["worst", mode, n, k] => {
+            let settings = settings(mode, n, k)?;
+            if !settings.allowed() {
+                return Err("refused 1".to_string());
+            }
+            let mut events = worst_schedule(settings, &in_order(settings.k), LastWriter::Stops);
+            events.truncate(MOST_EVENTS);
+            print(&file_of(settings, &events).map_err(|refusal| refusal.to_string())?)
+        }
+        ["calls", options @ ..] => {
+            let options = Options::read(options, &["--seed"])?;
+            let cases = call_cases::cases(options.seed.unwrap_or(SEED));
+            print(call_cases::text(&cases).as_bytes())
+        }
+        ["time", file] => time(&read_file(file)?),
+        _ => Err(USAGE.to_string()),
+    }
+}
+
+/// The numbers that follow options of a command.
+#[derive(Default)]
+struct Options {
+    seed: Option<u64>,
+    count: Option<u64>,
+    seconds: Option<u64>,
+}
+
+impl Options {
+    fn read(words: &[&str], allowed: &[&str]) -> Result<Options, String> {
+        let mut options = Options::default();
+        for pair in words.chunks(2) {
+            let [name, value] = pair else {
+                return Err(format!("{} needs a number", pair[0]));
+            };
+            if !allowed.contains(name) {
+                return Err(format!("no option {name} here; it takes {}", allowed.join(", ")));
+            }
+            let value = Some(number(value)?);
+            match *name {
+                "--seed" => options.seed = value,
+                "--count" => options.count = value,
+                _ => options.seconds = value,
+            }
+        }
+        Ok(options)
+    }
+}
+
+fn number<T: std::str::FromStr>(word: &str) -> Result<T, String> {
+    word.parse().map_err(|_| format!("'{word}' is no number that fits here"))
+}
+
+fn settings(mode: &str, n: &str, k: &str) -> Result<Settings, String> {
+    Ok(Settings::new(number(mode)?, number(n)?, number(k)?))
+}
+
+/// The events of `ask 0 turn 0 free 0`.
+fn events_of(words: &[&str]) -> Result<Vec<Event>, String> {
+    let event = |pair: &[&str]| {
+        let [word, id] = pair else {
+            return Err(format!("{} needs an identifier", pair[0]));
+        };
+        let kind = Kind::ALL.into_iter().find(|kind| kind.word() == *word);
+        let kind = kind.ok_or(format!("'{word}' is none of ask, turn, free"))?;
+        Ok(Event::new(kind, number(id)?))
+    };
+    words.chunks(2).map(event).collect()
+}
+
+fn read_file(path: &str) -> Result<Vec<u8>, String> {
+    fs::read(path).map_err(|error| format!("{path}: {error}"))
+}
+
+fn print(bytes: &[u8]) -> Result<ExitCode, String> {
+    let mut output = io::stdout().lock();
+    let written = output.write_all(bytes).and_then(|()| output.flush());
+    written.map(|()| ExitCode::SUCCESS).map_err(|error| error.to_string())
+}
+
+fn list_input(variant: &str) -> Result<ExitCode, String> {
+    let rules = rules_named(variant).ok_or(format!("no variant {variant}"))?;
+    let mut bytes = Vec::new();
+    io::stdin().lock().read_to_end(&mut bytes).map_err(|error| error.to_string())?;
+    print(listing(rules, &bytes).as_bytes())
+}
+
+/// The fixed cases and the random ones of a seed.
+fn compare_with(program: &str, words: &[&str]) -> Result<ExitCode, String> {
+    let (options, arguments) = program_arguments(words);
+    let options = Options::read(options, &["--seed", "--count", "--seconds"])?;
+    Ok(closing_line(compare::run(&compare::Plan {
+        program: PathBuf::from(program),
+        arguments,
+        fixed: true,
+        seed: options.seed.unwrap_or(SEED),
+        count: options.count.or(options.seconds.is_none().then_some(COMPARED)),
+        seconds: options.seconds,
+    })))
+}
+
+/// Only random cases, of a seed from the clock.
+fn fresh_with(program: &str, words: &[&str]) -> Result<ExitCode, String> {
+    let (options, arguments) = program_arguments(words);
+    let options = Options::read(options, &["--seconds"])?;
+    let clock = SystemTime::now().duration_since(UNIX_EPOCH).map_err(|error| error.to_string())?;
+    Ok(closing_line(compare::run(&compare::Plan {
+        program: PathBuf::from(program),
+        arguments,
+        fixed: false,
+        seed: clock.as_nanos() as u64,
+        count: None,
+        seconds: Some(options.seconds.unwrap_or(SECONDS)),
+    })))
+}
+
+/// The options before `--`, and what the program is started with after it.
+fn program_arguments<'a>(words: &'a [&'a str]) -> (&'a [&'a str], Vec<String>) {
+    let end = words.iter().position(|word| *word == "--").unwrap_or(words.len());
+    let arguments = words.iter().skip(end + 1).map(|word| word.to_string()).collect();
+    (&words[..end], arguments)
+}
+
+/// The last line of a command that checks something, and its exit status.
+fn closing_line((passed, failed): (usize, usize)) -> ExitCode {
+    println!("{passed} passed, {failed} failed");
+    if passed > 0 && failed == 0 {
+        ExitCode::SUCCESS
+    } else {
+        ExitCode::FAILURE
+    }
+}
+
+/// Runs the listing for about two seconds.
+fn time(bytes: &[u8]) -> Result<ExitCode, String> {
+    let start = Instant::now();
+    let mut runs = 0;
+    let mut length = 0;
+    while runs == 0 || start.elapsed().as_secs_f64() < 2.0 {
+        length = listing(&Grid, bytes).len();
+        runs += 1;
+    }
+    let each = start.elapsed().as_secs_f64() * 1000.0 / f64::from(runs);
+    println!("{each:.3} ms a run, {runs} runs, {length} bytes printed by each");
+    Ok(ExitCode::SUCCESS)
+}

@@ -1,0 +1,96 @@
+//! The command `power`: the generated schedules tell each of 01's shortcuts from the grid.
+
+use std::collections::HashMap;
+use std::thread;
+
+use crate::generate::{fixed_cases, random_case, Case};
+use crate::grid::{Grid, Rules};
+use crate::listing::listing;
+use crate::shortcuts::SHORTCUTS;
+
+/// What the set says of one shortcut.
+struct Told<'a> {
+    /// The cases whose listings differ from the grid's.
+    differing: usize,
+    /// Of these, the ones where two tasks hold one name at the same time.
+    clashing: usize,
+    /// The shortest that differs.
+    shortest: Option<&'a Case>,
+}
+
+fn tell<'a>(rules: &dyn Rules, cases: &'a [(Case, String)]) -> Told<'a> {
+    let mut told = Told { differing: 0, clashing: 0, shortest: None };
+    for (case, text) in cases {
+        let other = listing(rules, &case.bytes);
+        if other == *text {
+            continue;
+        }
+        told.differing += 1;
+        if clashes(&other) {
+            told.clashing += 1;
+        }
+        if told.shortest.is_none_or(|shortest| case.bytes.len() < shortest.bytes.len()) {
+            told.shortest = Some(case);
+        }
+    }
+    told
+}
+
+/// Whether two tasks of a listing hold one name at the same time.
+fn clashes(text: &str) -> bool {
+    let mut holders: HashMap<&str, usize> = HashMap::new();
+    text.lines().any(|line| {
+        let words: Vec<&str> = line.split(' ').collect();
+        match words[..] {
+            [_, _, _, "holds", name] => {
+                let count = holders.entry(name).or_default();
+                *count += 1;
+                *count > 1
+            }
+            [_, _, _, "freed", name] => {
+                *holders.entry(name).or_insert(1) -= 1;
+                false
+            }
+            _ => false,
+        }
+    })
+}
+
+/// The first line that differs, as the grid and the shortcut print it.
+fn first_difference(rules: &dyn Rules, case: &Case) -> String {
+    let (grid, other) = (listing(&Grid, &case.bytes), listing(rules, &case.bytes));
+    let mut lines = grid.lines().zip(other.lines());
+    match lines.find(|(right, wrong)| right != wrong) {
+        Some((right, wrong)) => format!("grid '{right}', shortcut '{wrong}'"),
+        None => "one text goes on after the other".to_string(),
+    }
+}
+
+/// Prints one line a shortcut (how many listings differ from the grid's, in how many of these two
+/// tasks hold one name, and the shortest), and answers how many were told from the grid and how many not.
+pub fn run(seed: u64, count: u64) -> (usize, usize) {
+    let random = (0..count).map(|index| random_case(seed, index));
+    let with_listing = |case: Case| {
+        let text = listing(&Grid, &case.bytes);
+        (case, text)
+    };
+    let cases: Vec<(Case, String)> =
+        fixed_cases().into_iter().chain(random).map(with_listing).collect();
+    println!("seed {seed}: {} cases, each under the grid and under each shortcut", cases.len());
+    let told: Vec<Told> = thread::scope(|scope| {
+        let telling = SHORTCUTS.map(|(_, rules)| scope.spawn(|| tell(rules, &cases)));
+        telling.map(|told| told.join().expect("a listing ends for all bytes")).into()
+    });
+    let mut passed = 0;
+    for ((name, rules), Told { differing, clashing, shortest }) in SHORTCUTS.iter().zip(told) {
+        let Some(case) = shortest else {
+            println!("{name}: NOT TOLD from the grid");
+            continue;
+        };
+        passed += 1;
+        let difference = first_difference(*rules, case);
+        let label = &case.label;
+        println!("{name}: {differing} differ, {clashing} clash; shortest: {label}: {difference}");
+    }
+    (passed, SHORTCUTS.len() - passed)
+}

@@ -1,0 +1,135 @@
+//! 01, "Shortcuts that look right": each runs in place of the grid and differs from it in one rule.
+
+use crate::grid::{
+    grid_turn, leave, moved, x_of, Direction, Grid, Name, Place, Point, Record, Registers, Rules,
+    Settings,
+};
+
+/// One shared mark per block in mode 1. A task going right has not set it and leaves it alone.
+pub struct SharedMark;
+
+impl Rules for SharedMark {
+    fn marks_in_block(&self, _: Settings) -> usize {
+        1
+    }
+
+    fn mark(&self, _: Settings, block: usize, _: usize) -> usize {
+        block
+    }
+
+    fn turn(
+        &self,
+        settings: Settings,
+        p: usize,
+        place: Place,
+        point: Point,
+        registers: &mut Registers,
+    ) -> Record {
+        match point {
+            Point::Clear(Direction::Right) => moved(settings, place, Direction::Right),
+            _ => grid_turn(self, settings, p, place, point, registers),
+        }
+    }
+}
+
+/// Clearing every mark of the block on release.
+pub struct ClearEveryMark;
+
+impl Rules for ClearEveryMark {
+    fn release(&self, settings: Settings, _: usize, place: Place, registers: &mut Registers) {
+        let width = self.marks_in_block(settings);
+        let first = settings.block(place) * width;
+        registers.marks[first..first + width].fill(0);
+    }
+}
+
+/// Counting only holders against k.
+pub struct CountHolders;
+
+impl Rules for CountHolders {
+    fn counts(&self, record: Record) -> bool {
+        matches!(record, Record::Holding(_))
+    }
+}
+
+/// Doing the scan as one turn.
+pub struct ScanAtOnce;
+
+impl Rules for ScanAtOnce {
+    fn turn(
+        &self,
+        settings: Settings,
+        p: usize,
+        place: Place,
+        point: Point,
+        registers: &mut Registers,
+    ) -> Record {
+        let mut record = grid_turn(self, settings, p, place, point, registers);
+        if let Point::Scan(_) = point {
+            while let Record::Seeking(place, Point::Scan(h)) = record {
+                record = grid_turn(self, settings, p, place, Point::Scan(h), registers);
+            }
+        }
+        record
+    }
+}
+
+/// Testing X before setting the mark: a task that reads its own X sets its mark and holds.
+pub struct TestXFirst;
+
+impl Rules for TestXFirst {
+    fn turn(
+        &self,
+        settings: Settings,
+        p: usize,
+        place: Place,
+        point: Point,
+        registers: &mut Registers,
+    ) -> Record {
+        match point {
+            Point::Scan(_) => match grid_turn(self, settings, p, place, point, registers) {
+                Record::Seeking(place, Point::WriteMark) => Record::Seeking(place, Point::ReadX),
+                record => record,
+            },
+            Point::ReadX => {
+                if registers.x[settings.block(place)] == x_of(p) {
+                    Record::Seeking(place, Point::WriteMark)
+                } else {
+                    leave(settings, place, Direction::Down)
+                }
+            }
+            Point::WriteMark => {
+                registers.marks[self.mark(settings, settings.block(place), p)] = 1;
+                Record::Holding(place)
+            }
+            _ => grid_turn(self, settings, p, place, point, registers),
+        }
+    }
+}
+
+/// Numbering names with the block formula.
+pub struct BlockNames;
+
+impl Rules for BlockNames {
+    fn name(&self, settings: Settings, place: Place) -> Name {
+        Name(settings.block(place) as u32)
+    }
+}
+
+/// The shortcuts by name.
+pub const SHORTCUTS: [(&str, &dyn Rules); 6] = [
+    ("shared-mark", &SharedMark),
+    ("clear-every-mark", &ClearEveryMark),
+    ("count-holders", &CountHolders),
+    ("scan-at-once", &ScanAtOnce),
+    ("test-x-first", &TestXFirst),
+    ("block-names", &BlockNames),
+];
+
+/// The rules of that name: `grid`, or one of the shortcuts.
+pub fn rules_named(name: &str) -> Option<&'static dyn Rules> {
+    if name == "grid" {
+        return Some(&Grid);
+    }
+    SHORTCUTS.iter().find(|(of, _)| *of == name).map(|(_, rules)| *rules)
+}

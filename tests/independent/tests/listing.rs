@@ -1,0 +1,74 @@
+//! The listing of 01 byte for byte, and what bad and empty files print.
+
+use independent::generate::edges::listing_of_01;
+use independent::grid::{Grid, Settings};
+use independent::listing::listing;
+use independent::schedule::{file_of, Event, Kind};
+
+const LISTING: &str = "\
+grid 1 2 2
+0 ask 0 seeks
+1 ask 1 seeks
+2 turn 0 seeks
+3 turn 1 seeks
+4 turn 0 seeks
+5 turn 0 seeks
+6 turn 0 seeks
+7 turn 0 seeks
+8 turn 0 holds 2
+9 turn 1 seeks
+10 turn 1 seeks
+11 turn 1 seeks
+12 turn 1 holds 0
+13 free 0 freed 2
+14 turn 0 refused 6
+15 free 1 freed 0
+end 0 2 6
+";
+
+#[test]
+fn listing_of_01_byte_for_byte() {
+    let header = [0x47, 0x52, 0x53, 0x01, 0x00, 0x01, 0x02, 0x00, 0x02, 0x10, 0x00];
+    let mut file = header.to_vec();
+    for line in LISTING.lines().skip(1).take(16) {
+        let words: Vec<&str> = line.split(' ').collect();
+        let code = ["ask", "turn", "free"].iter().position(|kind| *kind == words[1]);
+        file.extend([code.unwrap() as u8, words[2].parse().unwrap(), 0]);
+    }
+    assert_eq!(file.len(), 11 + 16 * 3);
+    assert_eq!(listing(&Grid, &file), LISTING);
+    assert_eq!(listing_of_01().bytes, file);
+}
+
+#[test]
+fn bad_file_prints_its_refusal_only() {
+    assert_eq!(listing(&Grid, b""), "refused 8\n");
+    assert_eq!(listing(&Grid, b"GRS"), "refused 8\n");
+    assert_eq!(listing(&Grid, b"GRT\x01\x00\x01\x02\x00\x02\x00\x00"), "refused 9\n");
+    assert_eq!(listing(&Grid, b"GRS\x01\x00\x01\x02\x00\x03\x00\x00"), "refused 1\n");
+}
+
+#[test]
+fn file_without_events() {
+    let file = file_of(Settings::new(0, 256, 16), &[]).unwrap();
+    assert_eq!(listing(&Grid, &file), "grid 0 256 16\nend 0 0 0\n");
+}
+
+#[test]
+fn most_counts_only_completed_acquisitions_and_peak_outlasts_releases() {
+    let settings = Settings::new(1, 2, 1);
+    let kinds = [(Kind::Ask, 1), (Kind::Ask, 0), (Kind::Free, 1), (Kind::Turn, 65_535)];
+    let events = kinds.map(|(kind, id)| Event::new(kind, id));
+    let text = listing(&Grid, &file_of(settings, &events).unwrap());
+    let due = "grid 1 2 1\n0 ask 1 holds 0\n1 ask 0 refused 7\n2 free 1 freed 0\n\
+               3 turn 65535 refused 4\nend 0 1 0\n";
+    assert_eq!(text, due);
+    let settings = Settings::new(1, 9, 2);
+    let mut events = vec![Event::new(Kind::Ask, 4)];
+    events.extend([Event::new(Kind::Turn, 4); 11]);
+    let unfinished = listing(&Grid, &file_of(settings, &events).unwrap());
+    assert!(unfinished.ends_with("11 turn 4 seeks\nend 0 0 0\n"));
+    events.push(Event::new(Kind::Turn, 4));
+    let finished = listing(&Grid, &file_of(settings, &events).unwrap());
+    assert!(finished.ends_with("12 turn 4 holds 0\nend 1 1 12\n"));
+}

@@ -1,0 +1,138 @@
+//! The refusals of the calls, in their order, and what they leave as it was.
+
+use independent::calls::{ask, release, setup, turn, Answer, Memory};
+use independent::grid::{Direction, Grid, Identifier, Place, Point, Record, Settings};
+use independent::refusal::{Refusal, Row};
+
+type Call = fn(Settings, u32, &mut Memory) -> Result<Answer, Refusal>;
+
+/// Ask, turn and release.
+const CALLS: [Call; 3] = [
+    |settings, id, memory| ask(&Grid, settings, Identifier(id), memory),
+    |settings, id, memory| turn(&Grid, settings, Identifier(id), memory),
+    |settings, id, memory| release(&Grid, settings, Identifier(id), memory),
+];
+
+/// Each call is refused so and changes nothing.
+fn all_refuse(settings: Settings, id: u32, memory: &Memory, refusal: Refusal) {
+    for call in CALLS {
+        let mut after = memory.clone();
+        assert_eq!(call(settings, id, &mut after), Err(refusal));
+        assert_eq!(after, *memory);
+    }
+}
+
+fn bad_record() -> Record {
+    Record::Holding(Place { r: 255, c: 255 })
+}
+
+#[test]
+fn faults_one_before_another() {
+    let settings = Settings::new(1, 3, 3);
+    let mut memory = Memory::idle(&Grid, settings);
+    memory.records[2] = bad_record();
+    memory.registers.x[1] = 4;
+    memory.registers.marks[7] = 2;
+    let mut short = memory.clone();
+    short.registers.marks.pop();
+    all_refuse(Settings::new(1, 3, 4), 9, &short, Refusal::Settings);
+    all_refuse(settings, 9, &short, Refusal::ShortRow);
+    all_refuse(settings, 9, &memory, Refusal::OutOfRange { row: Row::Records, index: 2 });
+    memory.records[2] = Record::Idle;
+    all_refuse(settings, 9, &memory, Refusal::OutOfRange { row: Row::X, index: 1 });
+    memory.registers.x[1] = 3;
+    all_refuse(settings, 9, &memory, Refusal::OutOfRange { row: Row::Marks, index: 7 });
+    memory.registers.marks[7] = 1;
+    all_refuse(settings, 3, &memory, Refusal::Identifier);
+}
+
+#[test]
+fn each_row_may_be_short() {
+    let settings = Settings::new(1, 3, 3);
+    for row in [Row::Records, Row::X, Row::Marks] {
+        let mut memory = Memory::idle(&Grid, settings);
+        match row {
+            Row::Records => drop(memory.records.pop()),
+            Row::X => drop(memory.registers.x.pop()),
+            Row::Marks => drop(memory.registers.marks.pop()),
+        }
+        all_refuse(settings, 0, &memory, Refusal::ShortRow);
+        assert_eq!(setup(&Grid, settings, &mut memory), Err(Refusal::ShortRow));
+    }
+}
+
+#[test]
+fn moment_comes_before_count_and_after_mode() {
+    let place = Place { r: 0, c: 0 };
+    let settings = Settings::new(0, 3, 2);
+    let mut memory = Memory::idle(&Grid, settings);
+    memory.records[0] = Record::Seeking(place, Point::WriteX);
+    memory.records[1] = Record::Holding(place);
+    let one = Identifier(1);
+    assert_eq!(ask(&Grid, settings, one, &mut memory), Err(Refusal::WrongMoment));
+    assert_eq!(ask(&Grid, settings, Identifier(2), &mut memory), Err(Refusal::TooManyOut));
+    assert_eq!(ask(&Grid, settings, Identifier(3), &mut memory), Err(Refusal::Identifier));
+    assert_eq!(turn(&Grid, settings, one, &mut memory), Err(Refusal::WrongMoment));
+    let released = release(&Grid, settings, Identifier(0), &mut memory);
+    assert_eq!(released, Err(Refusal::OneTimeRelease));
+    let settings = Settings::new(1, 3, 2);
+    let mut memory = Memory { records: memory.records, ..Memory::idle(&Grid, settings) };
+    let released = release(&Grid, settings, Identifier(0), &mut memory);
+    assert_eq!(released, Err(Refusal::WrongMoment));
+}
+
+#[test]
+fn ranges_of_records() {
+    let seeking = |r, c, point| Record::Seeking(Place { r, c }, point);
+    let holding = |r, c| Record::Holding(Place { r, c });
+    let once = Settings::new(0, 4, 3);
+    let long = Settings::new(1, 4, 3);
+    for settings in [once, long] {
+        assert!(seeking(1, 0, Point::ReadX).in_range(settings));
+        assert!(!seeking(1, 1, Point::ReadX).in_range(settings));
+        assert!(!seeking(255, 1, Point::ReadX).in_range(settings));
+        assert!(holding(1, 1).in_range(settings));
+        assert!(!holding(3, 0).in_range(settings));
+        assert!(!holding(1, 255).in_range(settings));
+        assert!(seeking(0, 0, Point::Scan(0)).in_range(settings));
+        let clear = seeking(0, 0, Point::Clear(Direction::Down));
+        assert_eq!(clear.in_range(settings), settings.long_lived());
+        let later = seeking(0, 0, Point::Scan(3));
+        assert_eq!(later.in_range(settings), settings.long_lived());
+        assert!(!seeking(0, 0, Point::Scan(4)).in_range(settings));
+    }
+    assert!(!seeking(0, 0, Point::WriteX).in_range(Settings::new(1, 1, 1)));
+}
+
+#[test]
+fn surplus_is_neither_tested_nor_counted_nor_changed() {
+    let settings = Settings::new(1, 2, 2);
+    let mut memory = Memory::idle(&Grid, settings);
+    memory.records.extend([bad_record(), Record::Holding(Place { r: 0, c: 0 })]);
+    memory.registers.x.push(999);
+    memory.registers.marks.push(7);
+    let surplus = memory.clone();
+    assert_eq!(ask(&Grid, settings, Identifier(0), &mut memory), Ok(Answer::Seeks));
+    assert_eq!(ask(&Grid, settings, Identifier(1), &mut memory), Ok(Answer::Seeks));
+    assert_eq!(turn(&Grid, settings, Identifier(1), &mut memory), Ok(Answer::Seeks));
+    assert_eq!(memory.registers.x, [2, 999]);
+    assert_eq!(ask(&Grid, settings, Identifier(2), &mut memory), Err(Refusal::Identifier));
+    assert_eq!(setup(&Grid, settings, &mut memory), Ok(Answer::Done));
+    assert_eq!(memory, surplus);
+}
+
+#[test]
+fn states_that_no_history_reaches_follow_the_rules() {
+    let settings = Settings::new(1, 2, 2);
+    let place = Place { r: 0, c: 0 };
+    let mut memory = Memory::idle(&Grid, settings);
+    memory.records = vec![Record::Seeking(place, Point::Scan(0)); 2];
+    memory.registers.marks = vec![1, 0];
+    assert_eq!(turn(&Grid, settings, Identifier(0), &mut memory), Ok(Answer::Seeks));
+    let going_right = Record::Seeking(place, Point::Clear(Direction::Right));
+    assert_eq!(memory.records[0], going_right);
+    memory.records = vec![Record::Holding(place); 2];
+    assert!(release(&Grid, settings, Identifier(1), &mut memory).is_ok());
+    assert_eq!(memory.registers.marks, [1, 0]);
+    assert_eq!(memory.records, [Record::Holding(place), Record::Idle]);
+}
