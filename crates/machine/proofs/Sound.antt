@@ -172,7 +172,7 @@ set-good good (x ∷ l) (suc i) (suc j) v d t h = set-good good l i j v d t h
 module _ (s : Settings) (m : Memory) (h : Sound s m) where
   record-sound : (p : ℕ) (new : Record) → T (recordInRange s new) → Sound s (record { records = set (m .records) p new; xs = m .xs; marks = m .marks })
   record-sound p new t = record {
-    records-long = rw (length-set (m .records) p new) (h .records-long);
+    records-long = simp length-set (h .records-long);
     xs-long = h .xs-long;
     marks-long = h .marks-long;
     records-good = λ q l. set-good (recordInRange s) (m .records) p q new idle t (h .records-good q l);
@@ -185,7 +185,7 @@ module _ (s : Settings) (m : Memory) (h : Sound s m) where
   store-sound (XRead block) w = h
   store-sound (XWritten block v) w = record {
     records-long = h .records-long;
-    xs-long = rw (length-set (m .xs) block v) (h .xs-long);
+    xs-long = simp length-set (h .xs-long);
     marks-long = h .marks-long;
     records-good = h .records-good;
     xs-good = λ b l. set-good (xInRange s) (m .xs) block b v 0 w (h .xs-good b l);
@@ -195,7 +195,7 @@ module _ (s : Settings) (m : Memory) (h : Sound s m) where
   store-sound (MarkWritten block place v) w = record {
     records-long = h .records-long;
     xs-long = h .xs-long;
-    marks-long = rw (length-set (m .marks) (markIndex s block place) v) (h .marks-long);
+    marks-long = simp length-set (h .marks-long);
     records-good = h .records-good;
     xs-good = h .xs-good;
     marks-good = λ i l. set-good markInRange (m .marks) (markIndex s block place) i v 0 w (h .marks-good i l);
