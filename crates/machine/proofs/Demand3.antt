@@ -1,6 +1,6 @@
 -- Demand 3, whole: the seven statements of `specs/Demands`, proved. Read this file first.
--- J0 to J3 hold after every call (`Histories`), and so: no two tasks hold one place (`Names`), a holder knows its name (`Told`), a seeking task's turn is
--- accepted (`Seekers`), it takes no more turns than the bound (`Served`), and the worst schedule takes as many (`Exact`).
+-- J0 to J3 hold after every call (`Histories`), and so: no two tasks hold one place (`Names`), a holder knows its name (`Told`), a seeking
+-- task's turn is accepted (`Seekers`), it takes no more turns than the bound (`Served`), and the worst schedule takes as many (`Exact`).
 use mathlib.Core.Path.{_≡_, sym, _∙_}
 use native.Mathlib.Decide.{ℕ-discrete}
 use native.Mathlib.Omega.{arith}
@@ -24,7 +24,8 @@ held-names-differ s lent events ok p q n lp lq hp hq = go (ℕ-discrete q p)
         absurd (one-place s lent events ok p q (hp .r) (hp .c) lp lq (hp .holds) (rw (same .0, same .1) at (hq .holds)) d)
 
 pub held-names-below : HeldNamesBelow
-held-names-below s lent events ok p n l h = rw (h .named) (name-numbering s .below (h .r) (h .c) (held-place s lent events ok p (h .r) (h .c) l (h .holds)))
+held-names-below s lent events ok p n l h =
+    rw (h .named) (name-numbering s .below (h .r) (h .c) (held-place s lent events ok p (h .r) (h .c) l (h .holds)))
 
 pub held-name-answered : HeldNameAnswered
 held-name-answered s lent events ok p n l h = rw (h .named) (told s lent events ok p (h .r) (h .c) l (h .holds))

@@ -1,7 +1,7 @@
--- Demand 3, "For each permitted mode, N and k some sequence makes one task need exactly that many": the worst schedule does, with task 0; and setup takes
--- a memory with rows long enough, so that there is a history to speak of.
-use mathlib.Core.Path.{sym, subst, _∙_}
-use mathlib.Core.List.{List}
+-- Demand 3, "For each permitted mode, N and k some sequence makes one task need exactly that many": the worst schedule does, with task 0;
+-- and setup takes a memory with rows long enough, so that there is a history to speak of.
+use mathlib.Core.Path.{_≡_, sym, ap, subst, _∙_}
+use mathlib.Core.List.{List, [], _∷_, _++_}
 use Prim.Native.Nat.{ℕ, _≤_}
 use native.Mathlib.Nat.{mul-le-mul, mul-le-mul-right}
 use native.Mathlib.Omega.{arith}
@@ -25,22 +25,27 @@ use Rattle.machine.proofs.Triangle.{half-square}
 use Rattle.machine.proofs.Fresh.{setup-permitted}
 use Rattle.machine.proofs.Outcomes.{Called, taken, refused, called}
 use Rattle.machine.proofs.Histories.{always-fine}
-use Rattle.machine.proofs.Leads.{last-accepted, used-written}
+use Rattle.machine.proofs.Leads.{EndsWith, last-accepted, used-written}
 use Rattle.machine.proofs.WorstTurns.{worst-turns, worst-last}
 use Rattle.machine.proofs.WorstRun.{worst-run}
 
 -- ---- the worst schedule
 
 -- a turn that is accepted was a seeking task's
-turn-accepted-seeks : (s : Settings) (lent : Memory) (ok : SetUp s lent) (events : List Event) (p : ℕ)
-    → T (isAccepted (call s (turn p) (memoryAfter s lent events) .answer)) → Seeks (memoryAfter s lent events) p
-turn-accepted-seeks s lent ok events p =
-    go (call s (turn p) (memoryAfter s lent events))
-    (called s (setup-permitted s lent ok) (turn p) (memoryAfter s lent events) (always-fine s lent ok events .good .sound))
-  where
-    go : (outcome : Outcome) → Called s (turn p) (memoryAfter s lent events) outcome → T (isAccepted (outcome .answer)) → Seeks (memoryAfter s lent events) p
-    go outcome (refused why) t = absurd t
-    go outcome (taken o) t = rw (not-false (isSeeking (stateOf (memoryAfter s lent events) p)) (o .moment)) tt
+taken-turn-seeks : (s : Settings) (m : Memory) (p : ℕ) (outcome : Outcome) → Called s (turn p) m outcome → T (isAccepted (outcome .answer))
+    → Seeks m p
+taken-turn-seeks s m p outcome (refused why) t = absurd t
+taken-turn-seeks s m p outcome (taken o) t = rw (not-false (isSeeking (stateOf m p)) (o .moment)) tt
+
+-- so before a last turn of task 0, in calls of which none is refused, task 0 seeks
+seeks-before-last : (s : Settings) (lent : Memory) → SetUp s lent → (events : List Event) (last : Event) (ends : EndsWith events last)
+    → T (allAccepted (historyOf s lent events)) → last ≡ turn 0 → Seeks (memoryAfter s lent (ends .before)) 0
+seeks-before-last s lent ok events last ends accepted e =
+    let m = memoryAfter s lent (ends .before) in
+    let split : T (allAccepted (historyOf s lent (ends .before ++ (turn 0 ∷ [])))) =
+    subst (λ (all : List Event). T (allAccepted (historyOf s lent all))) (ends .split ∙ ap (λ (z : Event). ends .before ++ (z ∷ [])) e) accepted in
+    taken-turn-seeks s m 0 (call s (turn 0) m) (called s (setup-permitted s lent ok) (turn 0) m (always-fine s lent ok (ends .before) .good .sound))
+    (last-accepted s (ends .before) (turn 0) (setup s lent .memory) split)
 
 pub worst-needs-bound : (s : Settings) (lent : Memory) → SetUp s lent → NeedsBound s lent (worst s)
 worst-needs-bound s lent ok =
@@ -53,8 +58,7 @@ worst-needs-bound s lent ok =
       last = end .last;
       split = end .ends .split;
       its = end .its;
-      late = λ more. turn-accepted-seeks s lent ok (end .ends .before) 0 (subst (λ (event : Event). T (isAccepted (call s event (memoryAfter s lent (end .ends .before)) .answer))) (end .late more)
-          (last-accepted s (end .ends .before) (end .last) (setup s lent .memory) (subst (λ (events : List Event). T (allAccepted (historyOf s lent events))) (end .ends .split) (foot .leads .accepted))));
+      late = λ more. seeks-before-last s lent ok (worst s) (end .last) (end .ends) (foot .leads .accepted) (end .late more);
       holds = subst (λ (m : Memory). HoldsSome m 0) (sym (foot .leads .ends)) (rw (foot .holds) tt);
       exactly = used-written s 0 (worst s) (setup s lent .memory) 0 (foot .leads .accepted) ∙ worst-turns s bounds;
     }
@@ -64,7 +68,12 @@ worst-needs-bound s lent ok =
 pub setup-takes-long-rows : (s : Settings) (m : Memory) → T (permitted s) → s .n ≤ length (m .records) → blocks s ≤ length (m .xs)
     → marksNeeded s ≤ length (m .marks) → SetUp s m
 setup-takes-long-rows s m fair a b c =
-    rw (is-true (permitted s) fair, le-ltb (length (m .records)) (s .n) a, le-ltb (length (m .xs)) (blocks s) b, le-ltb (length (m .marks)) (marksNeeded s) c)
+    rw (
+      is-true (permitted s) fair,
+      le-ltb (length (m .records)) (s .n) a,
+      le-ltb (length (m .xs)) (blocks s) b,
+      le-ltb (length (m .marks)) (marksNeeded s) c,
+    )
 
 -- k(k-1)/2 is at most 120
 half-most : (k : ℕ) → k ≤ 16 → half k ≤ 120

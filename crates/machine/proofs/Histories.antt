@@ -47,10 +47,12 @@ pub run-append : (s : Settings) (events more : List Event) (m : Memory) → run 
 run-append s [] more m = refl
 run-append s (event ∷ events) more m = run-append s events more (call s event m .memory)
 
-pub history-append : (s : Settings) (events more : List Event) (m : Memory) → history s (events ++ more) m ≡ history s events m ++ history s more (run s events m)
+pub history-append : (s : Settings) (events more : List Event) (m : Memory)
+    → history s (events ++ more) m ≡ history s events m ++ history s more (run s events m)
 history-append s [] more m = refl
 history-append s (event ∷ events) more m =
-    ap (λ (rest : List Answered). record { event = event; answer = call s event m .answer } ∷ rest) (history-append s events more (call s event m .memory))
+    ap (λ (rest : List Answered). record { event = event; answer = call s event m .answer } ∷ rest)
+    (history-append s events more (call s event m .memory))
 
 -- ---- the invariants of a history
 
@@ -130,7 +132,8 @@ module _ (s : Settings) (fair : T (permitted s)) where
   accepted-few Release p memory sound o few =
       le-trans (none-more-out Release p memory sound (o .below) (release-out (stateOf memory p) (o .moment))) few
 
-  call-few : (event : Event) (memory : Memory) → Sound s memory → outOf s (memory .records) ≤ s .k → outOf s (call s event memory .memory .records) ≤ s .k
+  call-few : (event : Event) (memory : Memory) → Sound s memory → outOf s (memory .records) ≤ s .k
+      → outOf s (call s event memory .memory .records) ≤ s .k
   call-few event memory sound few = go (call s event memory) (called s fair event memory sound)
     where
       go : (outcome : Outcome) → Called s event memory outcome → outOf s (outcome .memory .records) ≤ s .k
@@ -166,7 +169,8 @@ module _ (s : Settings) (lent : Memory) (ok : SetUp s lent) where
   pub fresh-unmarked : (r c place : ℕ) → gridOf s (setup s lent .memory) .mark r c place ≡ 0
   fresh-unmarked =
       rw (setup-memory s lent ok)
-      (all-unmarked s (limits s (setup-permitted s lent ok)) (fill (marksNeeded s) 0 (lent .marks)) (λ i l. fill-at (marksNeeded s) i 0 0 (lent .marks) l))
+      (all-unmarked s (limits s (setup-permitted s lent ok)) (fill (marksNeeded s) 0 (lent .marks))
+      (λ i l. fill-at (marksNeeded s) i 0 0 (lent .marks) l))
 
   -- whatever the bound m
   pub fresh-good : (m : ℕ) → Good s (setup-permitted s lent ok) m (setup s lent .memory)

@@ -28,8 +28,6 @@ use Rattle.machine.proofs.Histories.{Fine, fine-kept}
 use Rattle.machine.proofs.Leads.{Leads, leads-nowhere, leads-more, leads-append}
 
 module _ (s : Settings) (fair : T (permitted s)) where
-  -- ---- one call
-
   -- an accepted call of task p, whose record says `state`
   pub record Took (kind : Kind) (p : ℕ) (state : State) (m : Memory) : Type 0 where
     pub does : call s (eventOf kind p) m ≡ accept s kind p state m
@@ -37,27 +35,6 @@ module _ (s : Settings) (fair : T (permitted s)) where
     pub fine : Fine s fair (accept s kind p state m .memory)
     pub its : stateOf (accept s kind p state m .memory) p ≡ nextState s kind p state m
     pub others : (q : ℕ) → (q ≡ p → ⊥) → stateOf (accept s kind p state m .memory) q ≡ stateOf m q
-
-  took : (kind : Kind) (p : ℕ) (state : State) (m : Memory) → Fine s fair m → stateOf m p ≡ state → Open s (eventOf kind p) m → Took kind p state m
-  took kind p state m f e o =
-      let does : call s (eventOf kind p) m ≡ accept s kind p state m = open-accepted s fair (eventOf kind p) m (f .good .sound) o ∙ ap (λ (z : State). accept s kind p z m) e in
-      record {
-        does = does;
-        says = subst (λ (z : State). T (isAccepted (accept s kind p z m .answer))) e (rw (accepted-answer s (eventOf kind p) m) tt);
-        fine = rw (ap (λ (o : Outcome). o .memory) does) at (fine-kept s fair (eventOf kind p) m f);
-        its = caller-after s (limits s fair) m (f .good .sound) p (o .below) kind state;
-        others = others-after s (limits s fair) m (f .good .sound) p (o .below) kind state;
-      }
-
-  pub turn-took : (p r c : ℕ) (point : Point) (m : Memory) → Fine s fair m → p < s .n → stateOf m p ≡ Seeking r c point → Took Turn p (Seeking r c point) m
-  turn-took p r c point m f l e =
-      took Turn p (Seeking r c point) m f e (record { below = l; releases = refl; moment = ap (λ (z : State). not (isSeeking z)) e; room = refl })
-
-  pub ask-took : (p : ℕ) (m : Memory) → Fine s fair m → p < s .n → outOf s (m .records) < s .k → stateOf m p ≡ Idle → Took Ask p Idle m
-  ask-took p m f l few e =
-      took Ask p Idle m f e (record { below = l; releases = refl; moment = ap (λ (z : State). not (isIdle z)) e; room = lt-leb (s .k) (outOf s (m .records)) few })
-
-  -- ---- one task, and then the next
 
   -- the calls of task p leave it at `state`, the other tasks where they were, and a memory so that `Keeps`
   pub record Lap (Keeps : Memory → Type 0) (p : ℕ) (state : State) (events : List Event) (m : Memory) : Type 0 where
@@ -77,15 +54,43 @@ module _ (s : Settings) (fair : T (permitted s)) where
     pub theirs : (q : ℕ) → q < n → stateOf last q ≡ state
     pub others : (q : ℕ) → n ≤ q → stateOf last q ≡ stateOf m q
 
-  pub lap-over : (Keeps : Memory → Type 0) (p : ℕ) (state : State) (m : Memory) → Fine s fair m → Keeps m → stateOf m p ≡ state → Lap Keeps p state [] m
-  lap-over Keeps p state m f k e = record { last = m; leads = leads-nowhere s m; fine = f; keeps = k; its = e; others = λ q d. refl }
+module _ {s : Settings} {fair : T (permitted s)} where
+  -- ---- one call
 
-  pub lap-more : (Keeps : Memory → Type 0) (kind : Kind) (p : ℕ) (state to : State) (events : List Event) (m : Memory) → Took kind p state m
-      → Lap Keeps p to events (accept s kind p state m .memory) → Lap Keeps p to (eventOf kind p ∷ events) m
-  lap-more Keeps kind p state to events m t lap = record {
+  took : (kind : Kind) (p : ℕ) (state : State) (m : Memory) → Fine s fair m → stateOf m p ≡ state → Open s (eventOf kind p) m
+      → Took s fair kind p state m
+  took kind p state m f e o =
+      let does : call s (eventOf kind p) m ≡ accept s kind p state m =
+      open-accepted s fair (eventOf kind p) m (f .good .sound) o ∙ ap (λ (z : State). accept s kind p z m) e in
+      record {
+        does = does;
+        says = subst (λ (z : State). T (isAccepted (accept s kind p z m .answer))) e (rw (accepted-answer s (eventOf kind p) m) tt);
+        fine = rw (ap (λ (o : Outcome). o .memory) does) at (fine-kept s fair (eventOf kind p) m f);
+        its = caller-after s (limits s fair) m (f .good .sound) p (o .below) kind state;
+        others = others-after s (limits s fair) m (f .good .sound) p (o .below) kind state;
+      }
+
+  pub turn-took : (p r c : ℕ) (point : Point) (m : Memory) → Fine s fair m → p < s .n → stateOf m p ≡ Seeking r c point
+      → Took s fair Turn p (Seeking r c point) m
+  turn-took p r c point m f l e =
+      took Turn p (Seeking r c point) m f e (record { below = l; releases = refl; moment = ap (λ (z : State). not (isSeeking z)) e; room = refl })
+
+  pub ask-took : (p : ℕ) (m : Memory) → Fine s fair m → p < s .n → outOf s (m .records) < s .k → stateOf m p ≡ Idle → Took s fair Ask p Idle m
+  ask-took p m f l few e =
+      took Ask p Idle m f e
+      (record { below = l; releases = refl; moment = ap (λ (z : State). not (isIdle z)) e; room = lt-leb (s .k) (outOf s (m .records)) few })
+
+  -- ---- one task, and then the next
+
+  pub lap-over : {Keeps : Memory → Type 0} {p : ℕ} {state : State} (m : Memory) → Fine s fair m → Keeps m → stateOf m p ≡ state
+      → Lap s fair Keeps p state [] m
+  lap-over m f k e = record { last = m; leads = leads-nowhere; fine = f; keeps = k; its = e; others = λ q d. refl }
+
+  pub lap-more : {Keeps : Memory → Type 0} {kind : Kind} {p : ℕ} {state to : State} {events : List Event} {m : Memory} → Took s fair kind p state m
+      → Lap s fair Keeps p to events (accept s kind p state m .memory) → Lap s fair Keeps p to (eventOf kind p ∷ events) m
+  lap-more {kind = kind} {p = p} {state = state} {m = m} t lap = record {
     last = lap .last;
-    leads = leads-more s (eventOf kind p) events m (lap .last) (accept s kind p state m) (t .does)
-        (t .says) (lap .leads);
+    leads = leads-more (accept s kind p state m) (t .does) (t .says) (lap .leads);
     fine = lap .fine;
     keeps = lap .keeps;
     its = lap .its;
@@ -94,17 +99,17 @@ module _ (s : Settings) (fair : T (permitted s)) where
 
   -- each of the tasks n - 1 .. 0 in turn
   pub laps : (Keeps : ℕ → Memory → Type 0) (from to : State) (does : ℕ → List Event) (n : ℕ)
-      → ((p : ℕ) (m : Memory) → p < n → Fine s fair m → Keeps (suc p) m → stateOf m p ≡ from → Lap (Keeps p) p to (does p) m)
-      → (m : Memory) → Fine s fair m → Keeps n m → ((q : ℕ) → q < n → stateOf m q ≡ from) → Laps (Keeps 0) n to (each does n) m
+      → ((p : ℕ) (m : Memory) → p < n → Fine s fair m → Keeps (suc p) m → stateOf m p ≡ from → Lap s fair (Keeps p) p to (does p) m)
+      → (m : Memory) → Fine s fair m → Keeps n m → ((q : ℕ) → q < n → stateOf m q ≡ from) → Laps s fair (Keeps 0) n to (each does n) m
   laps Keeps from to does zero lap m f k all =
-      record { last = m; leads = leads-nowhere s m; fine = f; keeps = k; theirs = λ q l. absurd (not-suc-le-zero l); others = λ q l. refl }
+      record { last = m; leads = leads-nowhere; fine = f; keeps = k; theirs = λ q l. absurd (not-suc-le-zero l); others = λ q l. refl }
   laps Keeps from to does (suc n) lap m f k all =
       let one = lap n m (le-refl (suc n)) f k (all n (le-refl (suc n))) in
       let rest = laps Keeps from to does n (λ p m₁ l. lap p m₁ (omega arith)) (one .last) (one .fine) (one .keeps)
       (λ q l. one .others q (λ d. omega arith) ∙ all q (omega arith)) in
       record {
         last = rest .last;
-        leads = leads-append s (does n) (each does n) m (one .last) (rest .last) (one .leads) (rest .leads);
+        leads = leads-append (one .leads) (rest .leads);
         fine = rest .fine;
         keeps = rest .keeps;
         theirs = λ q l. go (rest .last) q l (decLt q n) (rest .theirs q) (rest .others n (le-refl n) ∙ one .its);

@@ -23,6 +23,7 @@ pub mod OneAccess
 pub mod Effects
 pub mod Surplus
 pub mod SettingUp
+pub mod Lent
 -- demand 3: `Demand3` is where to begin
 pub mod Counting
 pub mod Cover

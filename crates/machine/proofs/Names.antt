@@ -3,6 +3,8 @@ use mathlib.Core.Path.{_≡_, refl}
 use mathlib.Core.List.{List}
 use Prim.Native.Nat.{ℕ, _+_, _<_}
 use native.Mathlib.Omega.{arith}
+use lib.Dec.{T}
+use Rattle.machine.specs.Settings.{permitted}
 use Rattle.machine.specs.Memory.{Memory, stateOf}
 use Rattle.machine.specs.Demands.{SetUp, memoryAfter}
 use Rattle.machine.specs.declared.Settings.{Settings}
@@ -10,27 +12,30 @@ use Rattle.machine.specs.declared.State.the-variants.{Holding}
 use Rattle.machine.specs.declared.Event.{Event}
 use Rattle.machine.proofs.Fresh.{setup-permitted}
 use Rattle.machine.proofs.Stands.{InPlace, at, holding}
-use Rattle.machine.proofs.Invariant.{one-holder}
+use Rattle.machine.proofs.Invariant.{AllInPlace, one-holder}
 use Rattle.machine.proofs.Seen.{gridOf}
-use Rattle.machine.proofs.Sound.{Sound}
 use Rattle.machine.proofs.Histories.{rules, all-in-place, Fine, always-fine}
 
 -- ---- where a task holds
 
 module _ (s : Settings) (lent : Memory) (events : List Event) (ok : SetUp s lent) where
-  fine : Fine s (setup-permitted s lent ok) (memoryAfter s lent events)
+  abbrev fair : T (permitted s)
+  fair = setup-permitted s lent ok
+
+  fine : Fine s fair (memoryAfter s lent events)
   fine = always-fine s lent ok events
 
-  sound : Sound s (memoryAfter s lent events)
-  sound = fine .good .sound
+  placed : AllInPlace (rules s fair) (gridOf s (memoryAfter s lent events))
+  placed = all-in-place s fair (memoryAfter s lent events) (fine .good .sound)
 
   pub held-place : (p r c : ℕ) → p < s .n → stateOf (memoryAfter s lent events) p ≡ Holding r c → r + c < s .k
   held-place p r c l e =
-      let placed : InPlace (rules s (setup-permitted s lent ok)) (at r c holding) = rw e at (all-in-place s (setup-permitted s lent ok) (memoryAfter s lent events) sound p l) in
+      let there : InPlace (rules s fair) (at r c holding) = rw e at (placed p l) in
       omega arith
 
-  pub one-place : (p q r c : ℕ) → p < s .n → q < s .n → stateOf (memoryAfter s lent events) p ≡ Holding r c → stateOf (memoryAfter s lent events) q ≡ Holding r c
+  pub one-place : (p q r c : ℕ) → p < s .n → q < s .n → stateOf (memoryAfter s lent events) p ≡ Holding r c
+      → stateOf (memoryAfter s lent events) q ≡ Holding r c
       → (q ≡ p → ⊥) → ⊥
   one-place p q r c lp lq hp hq =
-      one-holder (rules s (setup-permitted s lent ok)) (gridOf s (memoryAfter s lent events))
-      (all-in-place s (setup-permitted s lent ok) (memoryAfter s lent events) sound) (fine .good .invariant) p q r c lp lq (rw hp (refl, refl)) (rw hq (refl, refl))
+      one-holder (rules s fair) (gridOf s (memoryAfter s lent events)) placed (fine .good .invariant) p q r c lp lq
+      (rw hp (refl, refl)) (rw hq (refl, refl))

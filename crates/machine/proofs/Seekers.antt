@@ -30,4 +30,5 @@ pub seeker-accepted : (s : Settings) (lent : Memory) (events : List Event) → S
     → T (isAccepted (call s (turn p) (memoryAfter s lent events) .answer))
 seeker-accepted s lent events ok p l t =
     let m = memoryAfter s lent events in
-    rw (open-accepted s (setup-permitted s lent ok) (turn p) m (always-fine s lent ok events .good .sound) (seeker-open s m p l t), accepted-answer s (turn p) m) tt
+    let taken = open-accepted s (setup-permitted s lent ok) (turn p) m (always-fine s lent ok events .good .sound) (seeker-open s m p l t) in
+    rw (taken, accepted-answer s (turn p) m) tt

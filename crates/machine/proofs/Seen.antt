@@ -1,5 +1,5 @@
--- The machine's memory as a grid, and what one register written changes there. With `Steps` the only file on demand 3 that knows the lists and the numbers of
--- the blocks: an X or a mark off the blocks counts as 0, so that 'nothing else changed' is said of every row and column.
+-- The machine's memory as a grid, and what one register written changes there: the only file of the proof that knows the numbers of the blocks.
+-- An X or a mark off the blocks counts as 0, so that 'nothing else changed' is said of every row and column.
 use mathlib.Core.Path.{_≡_, refl, sym, _∙_}
 use mathlib.Core.Logic.{_⊎_, inl, inr}
 use mathlib.Core.Bool.{true≢false, Bool, true, false, _&&_, cond}

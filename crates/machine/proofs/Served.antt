@@ -1,5 +1,5 @@
--- Demand 3, "From an accepted ask, a task holds a name within (N+4)(k-1) of its own accepted turns if long-lived, 4(k-1) if one-time, though every other
--- task stops for good".
+-- Demand 3, "From an accepted ask, a task holds a name within (N+4)(k-1) of its own accepted turns if long-lived, 4(k-1) if one-time, though every
+-- other task stops for good".
 use mathlib.Core.Path.{_≡_, refl, sym, ap, subst, _∙_}
 use mathlib.Core.Logic.{_⊎_, inl, inr, ⊎-elim}
 use mathlib.Core.Bool.{Bool, true, false, cond, _&&_}
@@ -141,10 +141,12 @@ module _ (s : Settings) (lent : Memory) (ok : SetUp s lent) (p : ℕ) (l : p < s
 
   pub holding-used : (events : List Event) → HoldsSome (memoryAfter s lent events) p → used s lent events p ≤ bound s
   holding-used events holds =
-      le-trans (go (stateOf (memoryAfter s lent events) p) holds (all-in-place s fair (memoryAfter s lent events) (sound events) p l) (always-within events))
+      le-trans (go (stateOf (memoryAfter s lent events) p) holds (all-in-place s fair (memoryAfter s lent events) (sound events) p l)
+      (always-within events))
       (bound-enough s (limits s fair))
     where
-      go : (state : State) → T (isHolding state) → InPlace (rules s fair) (standOf (width s) state) → Within (rules s fair) (standOf (width s) state) (used s lent events p)
+      go : (state : State) → T (isHolding state) → InPlace (rules s fair) (standOf (width s) state)
+          → Within (rules s fair) (standOf (width s) state) (used s lent events p)
           → used s lent events p ≤ cost (rules s fair) * (s .k - 1)
       go Idle t placed h = absurd t
       go (Seeking r c point) t placed h = absurd t

@@ -5,7 +5,7 @@ use mathlib.Core.Bool.{true≢false, Bool, true, false, _||_}
 use mathlib.Core.List.{List, [], _∷_}
 use Prim.Native.Nat.{ℕ, zero, suc, _+_, _≤_, _<_}
 use native.Mathlib.Nat.{le-refl}
-use native.Mathlib.Decide.{ℕ-discrete}
+use native.Mathlib.Decide.{decLe, ℕ-discrete}
 use native.Mathlib.Omega.{arith}
 use lib.Dec.{T, leb, ltb, leb→le, ltb→lt, le→leb, lt→ltb}
 use lib.ListN.{length, getD, set, length-set}
@@ -13,7 +13,8 @@ use borrow.Author.Tests.{eq-eqb, le-ltb, ltb-false}
 use Rattle.machine.specs.Settings.{permitted, width}
 use Rattle.machine.specs.Places.{blocks}
 use Rattle.machine.specs.Records.{idle, pointInRange, stateInRange, recordInRange}
-use Rattle.machine.specs.Memory.{Memory, marksNeeded, markIndex, recordOf, stateOf, xInRange, markInRange, badRecord, badX, badMark}
+use Rattle.machine.specs.Memory.{Memory, marksNeeded, markIndex, recordOf, stateOf, withRecord, withX, withMark}
+use Rattle.machine.specs.Memory.{xInRange, markInRange, badRecord, badX, badMark}
 use Rattle.machine.specs.Turn.{access, pointAccess, value, store, arrive, move, leave, pointTurned}
 use Rattle.machine.specs.Refusals.{wrongMoment}
 use Rattle.machine.specs.Calls.{nextState, accept}
@@ -34,7 +35,7 @@ use Rattle.machine.proofs.Bools.{and-in, and-l, and-r}
 use Rattle.machine.proofs.Limits.{Limits, width-least}
 use Rattle.machine.proofs.Turning.{scan-marked, scan-done, scan-on, reads-own, reads-other}
 use Rattle.machine.proofs.Searching.{none-bad, none-bad-all}
-use Rattle.machine.proofs.Arriving.{arrive-edge, arrive-block, leave-at-once, leave-clearing}
+use Rattle.machine.proofs.Arriving.{arrive-edge, arrive-block, leave-at-once, leave-clearing, release-clears, release-nothing}
 
 -- J0, value by value
 pub record Sound (s : Settings) (m : Memory) : Type 0 where
@@ -154,11 +155,11 @@ module _ (s : Settings) (l : Limits s) where
   access-writes Turn p (Holding r c) h = tt
   access-writes Release p Idle h = tt
   access-writes Release p (Seeking r c point) h = tt
-  access-writes Release p (Holding r c) h = go (leb (r + c + 2) (s .k)) refl
+  access-writes Release p (Holding r c) h = go (decLe (r + c + 2) (s .k))
     where
-      go : (on : Bool) → leb (r + c + 2) (s .k) ≡ on → Writes s (access s Release p (Holding r c))
-      go true e = rw e tt
-      go false e = rw e tt
+      go : Dec (r + c + 2 ≤ s .k) → Writes s (access s Release p (Holding r c))
+      go (yes b) = subst (Writes s) (release-clears s r c p b) tt
+      go (no b) = subst (Writes s) (release-nothing s r c p (omega arith)) tt
 
 -- ---- and so is the memory that it leaves
 
@@ -170,9 +171,9 @@ set-good good (x ∷ l) (suc i) zero v d t h = h
 set-good good (x ∷ l) (suc i) (suc j) v d t h = set-good good l i j v d t h
 
 module _ (s : Settings) (m : Memory) (h : Sound s m) where
-  record-sound : (p : ℕ) (new : Record) → T (recordInRange s new) → Sound s (record { records = set (m .records) p new; xs = m .xs; marks = m .marks })
+  record-sound : (p : ℕ) (new : Record) → T (recordInRange s new) → Sound s (withRecord p new m)
   record-sound p new t = record {
-    records-long = simp length-set (h .records-long);
+    records-long = rw (length-set (m .records) p new) (h .records-long);
     xs-long = h .xs-long;
     marks-long = h .marks-long;
     records-good = λ q l. set-good (recordInRange s) (m .records) p q new idle t (h .records-good q l);
@@ -180,29 +181,40 @@ module _ (s : Settings) (m : Memory) (h : Sound s m) where
     marks-good = h .marks-good;
   }
 
-  store-sound : (access : Access) → Writes s access → Sound s (store s access m)
-  store-sound NoAccess w = h
-  store-sound (XRead block) w = h
-  store-sound (XWritten block v) w = record {
+  x-sound : (b v : ℕ) → T (xInRange s v) → Sound s (withX b v m)
+  x-sound b v t = record {
     records-long = h .records-long;
-    xs-long = simp length-set (h .xs-long);
+    xs-long = rw (length-set (m .xs) b v) (h .xs-long);
     marks-long = h .marks-long;
     records-good = h .records-good;
-    xs-good = λ b l. set-good (xInRange s) (m .xs) block b v 0 w (h .xs-good b l);
+    xs-good = λ i l. set-good (xInRange s) (m .xs) b i v 0 t (h .xs-good i l);
     marks-good = h .marks-good;
   }
-  store-sound (MarkRead block place) w = h
-  store-sound (MarkWritten block place v) w = record {
+
+  mark-sound : (index v : ℕ) → T (markInRange v) → Sound s (withMark index v m)
+  mark-sound index v t = record {
     records-long = h .records-long;
     xs-long = h .xs-long;
-    marks-long = simp length-set (h .marks-long);
+    marks-long = rw (length-set (m .marks) index v) (h .marks-long);
     records-good = h .records-good;
     xs-good = h .xs-good;
-    marks-good = λ i l. set-good markInRange (m .marks) (markIndex s block place) i v 0 w (h .marks-good i l);
+    marks-good = λ i l. set-good markInRange (m .marks) index i v 0 t (h .marks-good i l);
   }
+
+  -- a mark that is written is that mark and no other
+  mark-stored : (b place v : ℕ) → withMark (markIndex s b place) v m ≡ store s (MarkWritten b place v) m
+  mark-stored b place v = refl
+
+  store-sound : (access : Access) → Writes s access → Sound s (store s access m)
+  store-sound NoAccess w = h
+  store-sound (XRead b) w = h
+  store-sound (XWritten b v) w = x-sound b v w
+  store-sound (MarkRead b place) w = h
+  store-sound (MarkWritten b place v) w = subst (Sound s) (mark-stored b place v) (mark-sound (markIndex s b place) v w)
 
 pub accept-sound : (s : Settings) → Limits s → (kind : Kind) (p : ℕ) (m : Memory) → Sound s m → p < s .n → wrongMoment kind (stateOf m p) ≡ false
     → Sound s (accept s kind p (stateOf m p) m .memory)
 accept-sound s fair kind p m h l e =
-    record-sound s (store s (access s kind p (stateOf m p)) m) (store-sound s m h (access s kind p (stateOf m p)) (access-writes s fair kind p (stateOf m p) l))
+    record-sound s (store s (access s kind p (stateOf m p)) m)
+    (store-sound s m h (access s kind p (stateOf m p)) (access-writes s fair kind p (stateOf m p) l))
     p (record { state = nextState s kind p (stateOf m p) m }) (next-in-range s fair kind p (stateOf m p) m e (h .records-good p l))

@@ -1,16 +1,16 @@
 -- An accepted call of the machine is a step of its grid: the one place where the two are compared, point by point.
 use mathlib.Core.Path.{_≡_, refl, sym, ap, subst, _∙_}
 use mathlib.Core.Logic.{_⊎_, inl, inr}
-use mathlib.Core.Bool.{true≢false, Bool, true, false}
+use mathlib.Core.Bool.{true≢false, false}
 use mathlib.Core.List.{List}
 use Prim.Native.Nat.{ℕ, _+_, _≤_, _<_}
 use native.Mathlib.Nat.{le-trans}
-use native.Mathlib.Decide.{ℕ-discrete}
+use native.Mathlib.Decide.{decLe, ℕ-discrete}
 use native.Mathlib.Omega.{arith}
 use lib.Dec.{T, leb, leb→le, ltb→lt, eqb→eq}
 use lib.ListN.{getD, set}
 use lib.Seq.{getD-set-same, getD-set-other}
-use borrow.Author.Tests.{eqb-false, leb-true, leb-false}
+use borrow.Author.Tests.{eqb-false}
 use Rattle.machine.specs.Settings.{width, own}
 use Rattle.machine.specs.Places.{blockNumber}
 use Rattle.machine.specs.Records.{idle, pointInRange, stateInRange}
@@ -34,10 +34,11 @@ use Rattle.machine.proofs.Bools.{and-l, and-r}
 use Rattle.machine.proofs.Limits.{Limits}
 use Rattle.machine.proofs.Turning.{scan-marked, scan-done, scan-on, reads-own, reads-other}
 use Rattle.machine.proofs.Stands.{Rules, mid, at, InPlace}
-use Rattle.machine.proofs.Moves.{Arrives, block, edge, Goes, Leaves, at-once, clearing, Effect, nothing, writes-x, writes-mark, XChange, MarkChange, Move, Step}
+use Rattle.machine.proofs.Moves.{Arrives, block, edge, Goes, Leaves, at-once, clearing, Move, Step}
+use Rattle.machine.proofs.Moves.{Effect, nothing, writes-x, writes-mark, XChange, MarkChange}
 use Rattle.machine.proofs.Moves.{asks, begins, passes, meets, marks, wins, loses, clears, frees, departs}
-use Rattle.machine.proofs.Seen.{two-modes, own-below, rulesOf, stageOf, standOf, gridOf, x-on-block, mark-on-block, x-put, mark-put}
-use Rattle.machine.proofs.Arriving.{arrive-edge, arrive-block, leave-at-once, leave-clearing}
+use Rattle.machine.proofs.Seen.{two-modes, own-below, rulesOf, stageOf, standOf, xAt, markAt, gridOf, x-on-block, mark-on-block, x-put, mark-put}
+use Rattle.machine.proofs.Arriving.{arrive-edge, arrive-block, leave-at-once, leave-clearing, release-clears, release-nothing}
 use Rattle.machine.proofs.Sound.{Sound}
 
 -- ---- where a task comes to
@@ -80,7 +81,8 @@ module _ (s : Settings) (l : Limits s) where
 -- ---- what a call writes, and how its task moves
 
 -- an access leaves the records, into which the call puts the next one
-records-after : (s : Settings) (access : Access) (m : Memory) (p : ℕ) (new : Record) → withRecord p new (store s access m) .records ≡ set (m .records) p new
+records-after : (s : Settings) (access : Access) (m : Memory) (p : ℕ) (new : Record)
+    → withRecord p new (store s access m) .records ≡ set (m .records) p new
 records-after s NoAccess m p new = refl
 records-after s (XRead b) m p new = refl
 records-after s (XWritten b v) m p new = refl
@@ -165,23 +167,24 @@ module _ (s : Settings) (l : Limits s) (m : Memory) (h : Sound s m) (p : ℕ) (b
   }
 
   release-moved : (r c : ℕ) → s .mode ≡ 1 → r + c + 1 ≤ s .k → Moved Release (Holding r c)
-  release-moved r c one b = go (leb (r + c + 2) (s .k)) refl
+  release-moved r c one b = go (decLe (r + c + 2) (s .k))
     where
-      go : (on : Bool) → leb (r + c + 2) (s .k) ≡ on → Moved Release (Holding r c)
-      go true e =
-          let on = leb-true (r + c + 2) (s .k) e in
+      go : Dec (r + c + 2 ≤ s .k) → Moved Release (Holding r c)
+      go (yes on) =
+          let clears = sym (release-clears s r c p on) in
           record {
             effect = writes-mark r c 0;
-            x-change = λ i j. rw e;
-            mark-change = mark-put s l m (accept s Release p (Holding r c) m .memory) r c (own s p) 0 on own-mark (h .marks-long) (rw e);
+            x-change = λ i j. ap (λ (a : Access). xAt s (store s a m .xs) i j) clears;
+            mark-change = mark-put s l m (accept s Release p (Holding r c) m .memory) r c (own s p) 0 on own-mark (h .marks-long)
+                (ap (λ (a : Access). store s a m .marks) clears);
             move = frees one on;
           }
-      go false e =
-          let off = leb-false (r + c + 2) (s .k) e in
+      go (no off) =
+          let none = sym (release-nothing s r c p (omega arith)) in
           record {
             effect = nothing;
-            x-change = λ i j. rw e;
-            mark-change = λ i j place. rw e;
+            x-change = λ i j. ap (λ (a : Access). xAt s (store s a m .xs) i j) none;
+            mark-change = λ i j place. ap (λ (a : Access). markAt s (store s a m .marks) i j place) none;
             move = departs {i = r} {j = c} one (omega arith);
           }
 
@@ -209,13 +212,15 @@ module _ (s : Settings) (l : Limits s) (m : Memory) (h : Sound s m) (p : ℕ) (b
 
   pub caller-after : (kind : Kind) (state : State) → stateOf (accept s kind p state m .memory) p ≡ nextState s kind p state m
   caller-after kind state =
-      ap (λ (records : List Record). getD records p idle .state) (records-after s (access s kind p state) m p (record { state = nextState s kind p state m }))
-      ∙ ap (λ (a : Record). a .state) (getD-set-same (m .records) p (record { state = nextState s kind p state m }) idle (le-trans below (h .records-long)))
+      let new : Record = record { state = nextState s kind p state m } in
+      ap (λ (records : List Record). getD records p idle .state) (records-after s (access s kind p state) m p new)
+      ∙ ap (λ (a : Record). a .state) (getD-set-same (m .records) p new idle (le-trans below (h .records-long)))
 
   pub others-after : (kind : Kind) (state : State) (q : ℕ) → (q ≡ p → ⊥) → stateOf (accept s kind p state m .memory) q ≡ stateOf m q
   others-after kind state q d =
-      ap (λ (records : List Record). getD records q idle .state) (records-after s (access s kind p state) m p (record { state = nextState s kind p state m }))
-      ∙ ap (λ (a : Record). a .state) (getD-set-other (m .records) p q (record { state = nextState s kind p state m }) idle d)
+      let new : Record = record { state = nextState s kind p state m } in
+      ap (λ (records : List Record). getD records q idle .state) (records-after s (access s kind p state) m p new)
+      ∙ ap (λ (a : Record). a .state) (getD-set-other (m .records) p q new idle d)
 
   -- how its task moves
   pub caller-moves : (kind : Kind) → oneTimeRelease s kind ≡ false → wrongMoment kind (stateOf m p) ≡ false

@@ -1,5 +1,5 @@
--- Demand 3 speaks of names that tasks hold; callers know the names that they were answered. The two agree: the name that a task holds is the one that its
--- last accepted ask or turn answered, and the one that its release answers.
+-- Demand 3 speaks of names that tasks hold; callers know the names that they were answered. The two agree: the name that a task holds is the
+-- one that its last accepted ask or turn answered, and the one that its release answers.
 use mathlib.Core.Path.{_≡_, refl, sym, ap, _∙_}
 use mathlib.Core.Bool.{Bool, true, false, not, cond, _&&_}
 use mathlib.Core.List.{List, [], _∷_}
@@ -69,7 +69,8 @@ module _ (s : Settings) (fair : T (permitted s)) (p : ℕ) (m : Memory) (sound :
       go outcome (taken o) false e =
           let d : p ≡ event .task .0 → ⊥ = λ f. eqb-false (event .task .0) p e (sym f) in
           rw (accepted-answer s event m)
-          (λ r c f. h r c (sym (others-after s (limits s fair) m sound (event .task .0) (o .below) (event .kind) (stateOf m (event .task .0)) p d) ∙ f))
+          (λ r c f.
+          h r c (sym (others-after s (limits s fair) m sound (event .task .0) (o .below) (event .kind) (stateOf m (event .task .0)) p d) ∙ f))
 
 last-heard : (s : Settings) (fair : T (permitted s)) (p : ℕ) (events : List Event) (m : Memory) (before : Answer) → Fine s fair m → Heard s p m before
     → Heard s p (run s events m) (lastAnswer p (history s events m) before)
@@ -79,10 +80,15 @@ last-heard s fair p (event ∷ events) m before f h =
     (heard-kept s fair p m (f .good .sound) before event h)
 
 holder-open : (s : Settings) (m : Memory) (p r c : ℕ) → p < s .n → s .mode ≡ 1 → stateOf m p ≡ Holding r c → Open s (release p) m
-holder-open s m p r c l one e = record { below = l; releases = ne-eqb (s .mode) 0 (λ z. omega arith); moment = ap (λ (state : State). not (isHolding state)) e; room = refl }
+holder-open s m p r c l one e = record {
+  below = l;
+  releases = ne-eqb (s .mode) 0 (λ z. omega arith);
+  moment = ap (λ (state : State). not (isHolding state)) e;
+  room = refl;
+}
 
-pub told : (s : Settings) (lent : Memory) (events : List Event) → SetUp s lent → (p r c : ℕ) → p < s .n → stateOf (memoryAfter s lent events) p ≡ Holding r c
-    → Told s lent events p (nameNumber s r c)
+pub told : (s : Settings) (lent : Memory) (events : List Event) → SetUp s lent → (p r c : ℕ) → p < s .n
+    → stateOf (memoryAfter s lent events) p ≡ Holding r c → Told s lent events p (nameNumber s r c)
 told s lent events ok p r c l e =
     let fair = setup-permitted s lent ok in
     let m = memoryAfter s lent events in

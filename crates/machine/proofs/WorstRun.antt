@@ -1,7 +1,7 @@
 -- The worst schedule, followed from setup: no call of it is refused, and it leaves task 0 holding the place at the foot of the first column.
 use mathlib.Core.Path.{_≡_, refl, sym, ap, subst, _∙_}
 use mathlib.Core.Logic.{_⊎_, inl, inr}
-use mathlib.Core.Bool.{Bool, true, false, cond}
+use mathlib.Core.Bool.{cond}
 use mathlib.Core.List.{List, [], _∷_}
 use Prim.Native.Nat.{ℕ, zero, suc, _+_, _-_, _≤_, _<_}
 use native.Mathlib.Nat.{le-refl}
@@ -12,9 +12,9 @@ use borrow.Author.Tests.{eq-eqb, ne-eqb}
 use Rattle.machine.specs.Settings.{permitted, width, own}
 use Rattle.machine.specs.Places.{blockNumber}
 use Rattle.machine.specs.Memory.{Memory, markIndex, stateOf, outOf}
-use Rattle.machine.specs.Turn.{arrive}
+use Rattle.machine.specs.Turn.{arrive, leave}
 use Rattle.machine.specs.Calls.{nextState, accept, setup}
-use Rattle.machine.specs.Worst.{ask, turn, turns, each, worstRow, worstRows, worst}
+use Rattle.machine.specs.Worst.{ask, turns, worstRow, worstRows, worst}
 use Rattle.machine.specs.Demands.{SetUp}
 use Rattle.machine.specs.declared.Settings.{Settings}
 use Rattle.machine.specs.declared.Direction.the-variants.{Down}
@@ -26,6 +26,8 @@ use Rattle.machine.specs.declared.Kind.the-variants.{Ask, Turn}
 use Rattle.machine.specs.declared.Event.{Event}
 use Rattle.machine.proofs.Limits.{limits, width-least}
 use Rattle.machine.proofs.Fresh.{setup-permitted, fresh-idle, fresh-none-out}
+use Rattle.machine.proofs.Turning.{reads-other}
+use Rattle.machine.proofs.Arriving.{leave-at-once, leave-clearing}
 use Rattle.machine.proofs.Seen.{two-modes, own-below, gridOf, x-on-block, mark-on-block, x-put, mark-put}
 use Rattle.machine.proofs.Histories.{Fine, fresh-fine, fresh-unmarked, one-more-out}
 use Rattle.machine.proofs.Leads.{Leads, leads-more, leads-append, leads-nowhere}
@@ -50,20 +52,21 @@ module _ (s : Settings) (fair : T (permitted s)) where
 
   scan-lap : (r p : ℕ) → r + 2 ≤ s .k → p < s .n → (left h : ℕ) → h + left ≡ width s → (m : Memory) → Fine s fair m → Unmarked r m
       → stateOf m p ≡ scanned r h → Lap s fair (Unmarked r) p (Seeking r 0 WriteMark) (turns left p) m
-  scan-lap r p b l zero h e m f clean is = lap-over s fair (Unmarked r) p (Seeking r 0 WriteMark) m f clean (is ∙ rw (eq-eqb h (width s) (omega arith)))
+  scan-lap r p b l zero h e m f clean is = lap-over m f clean (is ∙ rw (eq-eqb h (width s) (omega arith)))
   scan-lap r p b l (suc left) h e m f clean is =
-      let here = turn-took s fair p r 0 (Scan h) m f l (is ∙ rw (ne-eqb h (width s) (λ z. omega arith))) in
-      let unset : getD (m .marks) (markIndex s (blockNumber s r 0) h) 0 ≡ 0 = sym (mark-on-block s (m .marks) r 0 h (omega arith) (omega arith)) ∙ clean r h (le-refl r) in
+      let here = turn-took p r 0 (Scan h) m f l (is ∙ rw (ne-eqb h (width s) (λ z. omega arith))) in
+      let unset : getD (m .marks) (markIndex s (blockNumber s r 0) h) 0 ≡ 0 =
+      sym (mark-on-block s (m .marks) r 0 h (omega arith) (omega arith)) ∙ clean r h (le-refl r) in
       let next : nextState s Turn p (Seeking r 0 (Scan h)) m ≡ scanned r (h + 1) = rw unset in
-      lap-more s fair (Unmarked r) Turn p (Seeking r 0 (Scan h)) (Seeking r 0 WriteMark) (turns left p) m here
+      lap-more here
       (scan-lap r p b l left (h + 1) (omega arith) _ (here .fine) clean (here .its ∙ next))
 
   first-lap : (r p : ℕ) → r + 2 ≤ s .k → p < s .n → (m : Memory) → Fine s fair m → Unmarked r m → stateOf m p ≡ Seeking r 0 WriteX
       → Lap s fair (Unmarked r) p (Seeking r 0 WriteMark) (turns (suc (width s)) p) m
   first-lap r p b l m f clean is =
-      let here = turn-took s fair p r 0 WriteX m f l is in
+      let here = turn-took p r 0 WriteX m f l is in
       let some = width-least s (limits s fair) in
-      lap-more s fair (Unmarked r) Turn p (Seeking r 0 WriteX) (Seeking r 0 WriteMark) (turns (width s) p) m here
+      lap-more here
       (scan-lap r p b l (width s) 0 (omega arith) _ (here .fine) clean (here .its ∙ rw (ne-eqb 0 (width s) (λ z. omega arith))))
 
   -- ---- its other turns there: it writes its mark, reads another's X and, long-lived, clears
@@ -86,33 +89,34 @@ module _ (s : Settings) (fair : T (permitted s)) where
       m₂ : Memory
       m₂ = accept s Turn p (Seeking r 0 ReadX) m₁ .memory
 
+      m₃ : Memory
+      m₃ = accept s Turn p (Seeking r 0 (Clear Down)) m₂ .memory
+
       marks : Took s fair Turn p (Seeking r 0 WriteMark) m
-      marks = turn-took s fair p r 0 WriteMark m f l is
+      marks = turn-took p r 0 WriteMark m f l is
 
       reads : Took s fair Turn p (Seeking r 0 ReadX) m₁
-      reads = turn-took s fair p r 0 ReadX m₁ (marks .fine) l (marks .its)
+      reads = turn-took p r 0 ReadX m₁ (marks .fine) l (marks .its)
 
       lost₂ : Lost r n m₂
       lost₂ = (below-unmarked r p 1 WriteMark m f b l refl (lost .0), lost .1)
 
-      next : (once : Bool) → eqb (s .mode) 0 ≡ once → stateOf m₂ p ≡ cond once (arrive s (r + 1) 0) (Seeking r 0 (Clear Down))
-      next once e =
-          reads .its ∙ rw (sym (x-on-block s (m .xs) r 0 (omega arith)) ∙ lost .1, ne-eqb (n + 1) (p + 1) (λ z. omega arith), e) refl
+      x-other : getD (m .xs) (blockNumber s r 0) 0 ≡ p + 1 → ⊥
+      x-other e = omega (arith, x-on-block s (m .xs) r 0 (omega arith), lost .1)
+
+      left : stateOf m₂ p ≡ leave s r 0 Down
+      left = reads .its ∙ sym (reads-other s p r 0 (getD (m .xs) (blockNumber s r 0) 0) x-other)
 
       Whole : ℕ → Type 0
       Whole mode = Lap s fair (Lost r n) p (arrive s (r + 1) 0) (turns (mode + 2) p) m
 
       go : (s .mode ≡ 0) ⊎ (s .mode ≡ 1) → Whole (s .mode)
       go (inl e) =
-          subst Whole (sym e) (lap-more s fair (Lost r n) Turn p (Seeking r 0 WriteMark) (arrive s (r + 1) 0) (turn p ∷ []) m marks
-          (lap-more s fair (Lost r n) Turn p (Seeking r 0 ReadX) (arrive s (r + 1) 0) [] m₁ reads
-          (lap-over s fair (Lost r n) p (arrive s (r + 1) 0) m₂ (reads .fine) lost₂ (next true (eq-eqb (s .mode) 0 e)))))
+          subst Whole (sym e) (lap-more marks (lap-more reads (lap-over m₂ (reads .fine) lost₂ (left ∙ sym (leave-at-once s r 0 Down e)))))
       go (inr e) =
-          let clears = turn-took s fair p r 0 (Clear Down) m₂ (reads .fine) l (next false (ne-eqb (s .mode) 0 (λ z. omega arith))) in
-          subst Whole (sym e) (lap-more s fair (Lost r n) Turn p (Seeking r 0 WriteMark) (arrive s (r + 1) 0) (turn p ∷ turn p ∷ []) m marks
-          (lap-more s fair (Lost r n) Turn p (Seeking r 0 ReadX) (arrive s (r + 1) 0) (turn p ∷ []) m₁ reads
-          (lap-more s fair (Lost r n) Turn p (Seeking r 0 (Clear Down)) (arrive s (r + 1) 0) [] m₂ clears
-          (lap-over s fair (Lost r n) p (arrive s (r + 1) 0) _ (clears .fine) (below-unmarked r p 0 (Clear Down) m₂ (reads .fine) b l refl (lost₂ .0), lost₂ .1) (clears .its)))))
+          let clears = turn-took p r 0 (Clear Down) m₂ (reads .fine) l (left ∙ sym (leave-clearing s r 0 Down (λ z. omega arith))) in
+          let lost₃ : Lost r n m₃ = (below-unmarked r p 0 (Clear Down) m₂ (reads .fine) b l refl (lost₂ .0), lost₂ .1) in
+          subst Whole (sym e) (lap-more marks (lap-more reads (lap-more clears (lap-over m₃ (clears .fine) lost₃ (clears .its)))))
 
   -- ---- row after row
 
@@ -133,21 +137,21 @@ module _ (s : Settings) (fair : T (permitted s)) where
   row-done : (n r : ℕ) → r + 2 ≤ s .k → suc n < s .n → (m : Memory) → Fine s fair m → Unmarked r m
       → ((q : ℕ) → q < suc (suc n) → stateOf m q ≡ Seeking r 0 WriteX) → RowDone (suc n) r m
   row-done n r b l m f clean all =
-      let first = laps s fair (λ _. Unmarked r) (Seeking r 0 WriteX) (Seeking r 0 WriteMark) (turns (suc (width s))) (suc n)
+      let first = laps (λ _. Unmarked r) (Seeking r 0 WriteX) (Seeking r 0 WriteMark) (turns (suc (width s))) (suc n)
       (λ p m₁ h. first-lap r p b (omega arith) m₁) m f clean (λ q h. all q (omega arith)) in
       let m₁ : Memory = accept s Turn (suc n) (Seeking r 0 WriteX) (first .last) .memory in
-      let stays = turn-took s fair (suc n) r 0 WriteX (first .last) (first .fine) l (first .others (suc n) (le-refl (suc n)) ∙ all (suc n) (le-refl (suc (suc n)))) in
+      let stays = turn-took (suc n) r 0 WriteX (first .last) (first .fine) l
+      (first .others (suc n) (le-refl (suc n)) ∙ all (suc n) (le-refl (suc (suc n)))) in
       let lost : Lost r (suc n) m₁ = (
         λ i place h. first .keeps i place (omega arith),
         x-put s (limits s fair) (first .last) m₁ r 0 (suc n + 1) (omega arith) (first .fine .good .sound .xs-long) refl .here,
       ) in
-      let second = laps s fair (λ _. Lost r (suc n)) (Seeking r 0 WriteMark) (arrive s (r + 1) 0) (turns (s .mode + 2)) (suc n)
+      let second = laps (λ _. Lost r (suc n)) (Seeking r 0 WriteMark) (arrive s (r + 1) 0) (turns (s .mode + 2)) (suc n)
       (λ p m₂ h. second-lap r (suc n) p b h (omega arith) m₂) m₁ (stays .fine) lost (λ q h. stays .others q (λ d. omega arith) ∙ first .theirs q h) in
       record {
         last = second .last;
-        leads = leads-append s (each (turns (suc (width s))) (suc n)) (turn (suc n) ∷ each (turns (s .mode + 2)) (suc n)) m (first .last) (second .last) (first .leads)
-            (leads-more s (turn (suc n)) (each (turns (s .mode + 2)) (suc n)) (first .last) (second .last) (accept s Turn (suc n) (Seeking r 0 WriteX) (first .last))
-            (stays .does) (stays .says) (second .leads));
+        leads = leads-append {middle = first .last} {last = second .last} (first .leads)
+            (leads-more {last = second .last} (accept s Turn (suc n) (Seeking r 0 WriteX) (first .last)) (stays .does) (stays .says) (second .leads));
         fine = second .fine;
         keeps = second .keeps .0;
         theirs = second .theirs;
@@ -157,14 +161,18 @@ module _ (s : Settings) (fair : T (permitted s)) where
       → Foot (worstRows s n) m
   go-down zero r e m f clean all =
       let last : r ≡ s .k - 1 = omega arith in
-      record { last = m; leads = leads-nowhere s m; holds = all 0 (le-refl 1) ∙ rw (eq-eqb (r + 0 + 1) (s .k) (omega arith)) (ap (λ (i : ℕ). Holding i 0) last) }
+      record {
+        last = m;
+        leads = leads-nowhere;
+        holds = all 0 (le-refl 1) ∙ rw (eq-eqb (r + 0 + 1) (s .k) (omega arith)) (ap (λ (i : ℕ). Holding i 0) last);
+      }
   go-down (suc n) r e m f clean all =
       let row = row-done n r (omega arith) (omega (arith, limits s fair .k-within)) m f clean
       (λ q h. all q h ∙ rw (ne-eqb (r + 0 + 1) (s .k) (λ z. omega arith))) in
       let rest = go-down n (r + 1) (omega arith) (row .last) (row .fine) (row .keeps) (row .theirs) in
       record {
         last = rest .last;
-        leads = leads-append s (worstRow s (suc n)) (worstRows s n) m (row .last) (rest .last) (row .leads) (rest .leads);
+        leads = leads-append {middle = row .last} {last = rest .last} (row .leads) (rest .leads);
         holds = rest .holds;
       }
 
@@ -174,23 +182,24 @@ module _ (s : Settings) (fair : T (permitted s)) where
   abbrev Room : ℕ → Memory → Type 0
   Room n m = (outOf s (m .records) + n ≤ s .k) × Unmarked 0 m
 
-  ask-lap : (p : ℕ) (m : Memory) → p < s .n → Fine s fair m → Room (suc p) m → stateOf m p ≡ Idle → Lap s fair (Room p) p (arrive s 0 0) (ask p ∷ []) m
+  ask-lap : (p : ℕ) (m : Memory) → p < s .n → Fine s fair m → Room (suc p) m → stateOf m p ≡ Idle
+      → Lap s fair (Room p) p (arrive s 0 0) (ask p ∷ []) m
   ask-lap p m l f room is =
-      let here = ask-took s fair p m f l (omega arith) is in
+      let here = ask-took p m f l (omega arith) is in
       let more = one-more-out s fair Ask p m (f .good .sound) l in
-      lap-more s fair (Room p) Ask p Idle (arrive s 0 0) [] m here (lap-over s fair (Room p) p (arrive s 0 0) _ (here .fine) (omega arith, room .1) (here .its))
+      lap-more here (lap-over _ (here .fine) (omega arith, room .1) (here .its))
 
 pub worst-run : (s : Settings) (lent : Memory) (ok : SetUp s lent) → Foot s (setup-permitted s lent ok) (worst s) (setup s lent .memory)
 worst-run s lent ok =
     let fair = setup-permitted s lent ok in
     let bounds = limits s fair in
-    let asks = laps s fair (Room s fair) Idle (arrive s 0 0) (λ p. ask p ∷ []) (s .k) (λ p m h. ask-lap s fair p m (omega (arith, bounds .k-within)))
+    let asks = laps (Room s fair) Idle (arrive s 0 0) (λ p. ask p ∷ []) (s .k) (λ p m h. ask-lap s fair p m (omega (arith, bounds .k-within)))
     (setup s lent .memory) (fresh-fine s lent ok) (omega (arith, fresh-none-out s lent ok), λ i place _. fresh-unmarked s lent ok i 0 place)
     (λ q h. fresh-idle s lent ok q (omega (arith, bounds .k-within))) in
     let down = go-down s fair (s .k - 1) 0 (omega (arith, bounds .k-least)) (asks .last) (asks .fine) (asks .keeps .1)
     (λ q h. asks .theirs q (omega (arith, bounds .k-least))) in
     record {
       last = down .last;
-      leads = leads-append s (each (λ p. ask p ∷ []) (s .k)) (worstRows s (s .k - 1)) (setup s lent .memory) (asks .last) (down .last) (asks .leads) (down .leads);
+      leads = leads-append {middle = asks .last} {last = down .last} (asks .leads) (down .leads);
       holds = down .holds;
     }

@@ -37,7 +37,9 @@ written-other (suc count) p t = ap (writtenTurns 0 (turns count (suc p))) (not-z
 written-each : (count n t : ℕ) → writtenTurns 0 (each (turns count) (suc n)) t ≡ t + count
 written-each count zero t = written-append 0 (turns count 0) [] t ∙ written-own count t
 written-each count (suc n) t =
-    written-append 0 (turns count (suc n)) (each (turns count) (suc n)) t ∙ written-each count n _ ∙ ap (λ (x : ℕ). x + count) (written-other count n t)
+    written-append 0 (turns count (suc n)) (each (turns count) (suc n)) t
+    ∙ written-each count n _
+    ∙ ap (λ (x : ℕ). x + count) (written-other count n t)
 
 written-asks : (n t : ℕ) → writtenTurns 0 (each (λ p. ask p ∷ []) (suc n)) t ≡ 0
 written-asks zero t = refl
@@ -58,7 +60,9 @@ module _ (s : Settings) where
   written-rows : (n t : ℕ) → writtenTurns 0 (worstRows s n) t ≡ t + n * (width s + 3 + s .mode)
   written-rows zero t = omega arith
   written-rows (suc n) t =
-      written-append 0 (worstRow s (suc n)) (worstRows s n) t ∙ written-rows n _ ∙ ap (λ (x : ℕ). x + n * (width s + 3 + s .mode)) (written-row n t)
+      written-append 0 (worstRow s (suc n)) (worstRows s n) t
+      ∙ written-rows n _
+      ∙ ap (λ (x : ℕ). x + n * (width s + 3 + s .mode)) (written-row n t)
       ∙ sum t n (width s + 3 + s .mode)
     where
       sum : (t n each : ℕ) → t + each + n * each ≡ t + suc n * each
@@ -88,24 +92,23 @@ module _ (s : Settings) where
 -- ---- the last call
 
 turns-end : (count p : ℕ) → EndsWith (turns (suc count) p) (turn p)
-turns-end zero p = ends-alone (turn p)
-turns-end (suc count) p = ends-append (turn p ∷ []) (turns (suc count) p) (turn p) (turns-end count p)
+turns-end zero p = ends-alone
+turns-end (suc count) p = ends-append (turn p ∷ []) (turns-end count p)
 
-each-end : (does : ℕ → List Event) (last : Event) → EndsWith (does 0) last → (n : ℕ) → EndsWith (each does (suc n)) last
-each-end does last e zero = ends-nil (does 0) last e
-each-end does last e (suc n) = ends-append (does (suc n)) (each does (suc n)) last (each-end does last e n)
+each-end : (does : ℕ → List Event) {last : Event} → EndsWith (does 0) last → (n : ℕ) → EndsWith (each does (suc n)) last
+each-end does e zero = ends-nil e
+each-end does e (suc n) = ends-append (does (suc n)) (each-end does e n)
 
 module _ (s : Settings) where
   row-end : (n : ℕ) → EndsWith (worstRow s (suc n)) (turn 0)
   row-end n =
-      let reads = each (turns (s .mode + 2)) (suc n) in
       let e : s .mode + 2 ≡ suc (s .mode + 1) = omega arith in
-      ends-append (each (turns (suc (width s))) (suc n)) (turn (suc n) ∷ reads) (turn 0)
-      (ends-append (turn (suc n) ∷ []) reads (turn 0) (each-end (turns (s .mode + 2)) (turn 0) (rw e (turns-end (s .mode + 1) 0)) n))
+      ends-append (each (turns (suc (width s))) (suc n))
+      (ends-append (turn (suc n) ∷ []) (each-end (turns (s .mode + 2)) (rw e (turns-end (s .mode + 1) 0)) n))
 
   rows-end : (n : ℕ) → EndsWith (worstRows s (suc n)) (turn 0)
-  rows-end zero = ends-nil (worstRow s 1) (turn 0) (row-end 0)
-  rows-end (suc n) = ends-append (worstRow s (suc (suc n))) (worstRows s (suc n)) (turn 0) (rows-end n)
+  rows-end zero = ends-nil (row-end 0)
+  rows-end (suc n) = ends-append (worstRow s (suc (suc n))) (rows-end n)
 
   pub record LastOwn : Type 0 where
     pub last : Event
@@ -119,7 +122,8 @@ module _ (s : Settings) where
       go : Dec (1 < s .k) → LastOwn
       go (yes h) =
           let e : s .k - 1 ≡ suc (s .k - 2) = omega arith in
-          record { last = turn 0; ends = ends-append (each (λ p. ask p ∷ []) (s .k)) (worstRows s (s .k - 1)) (turn 0) (rw e (rows-end (s .k - 2))); its = refl; late = λ _. refl }
+          let ends = ends-append (each (λ p. ask p ∷ []) (s .k)) (rows-end (s .k - 2)) in
+          record { last = turn 0; ends = rw e ends; its = refl; late = λ _. refl }
       go (no h) =
           let one : s .k ≡ 1 = omega (arith, l .k-least) in
-          record { last = ask 0; ends = rw one (ends-alone (ask 0)); its = refl; late = λ g. absurd (h g) }
+          record { last = ask 0; ends = rw one ends-alone; its = refl; late = λ g. absurd (h g) }

@@ -10,6 +10,7 @@ pub mod Calls
 pub mod History
 pub mod File
 pub mod Listing
+pub mod Lent
 -- What is promised of them.
 pub mod Worst
 pub mod Demands
