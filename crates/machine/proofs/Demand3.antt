@@ -1,13 +1,14 @@
--- Demand 3, whole: the seven statements of `specs/Demands`, proved. Read this file first.
+-- Demand 3, whole: the eight statements of `specs/Demands`, proved. Read this file first.
 -- J0 to J3 hold after every call (`Histories`), and so: no two tasks hold one place (`Names`), a holder knows its name (`Told`), a seeking
 -- task's turn is accepted (`Seekers`), it takes no more turns than the bound (`Served`), and the worst schedule takes as many (`Exact`).
 use mathlib.Core.Path.{_≡_, sym, _∙_}
 use native.Mathlib.Decide.{ℕ-discrete}
 use native.Mathlib.Omega.{arith}
-use Rattle.machine.specs.Demands.{HeldNamesDiffer, HeldNamesBelow, HeldNameAnswered, SeekerNeverRefused, bound, ServedWithin, BoundExact, SetupTakes}
+use Rattle.machine.specs.Demands.{HeldNamesDiffer, HeldNamesBelow, LastAnswerTrue, HeldNameAnswered, SeekerNeverRefused, bound, ServedWithin, BoundExact, SetupTakes}
 use Rattle.machine.proofs.Triangle.{name-numbering}
 use Rattle.machine.proofs.Names.{held-place, one-place}
 use Rattle.machine.proofs.Told.{told}
+use Rattle.machine.proofs.Told as told
 use Rattle.machine.proofs.Seekers.{seeker-accepted}
 use Rattle.machine.proofs.Served.{seeking-used, holding-used, served-alone}
 use Rattle.machine.proofs.Exact.{worst-needs-bound, setup-takes-largest}
@@ -26,6 +27,9 @@ held-names-differ s lent events ok p q n lp lq hp hq = go (ℕ-discrete q p)
 pub held-names-below : HeldNamesBelow
 held-names-below s lent events ok p n l h =
     rw (h .named) (name-numbering s .below (h .r) (h .c) (held-place s lent events ok p (h .r) (h .c) l (h .holds)))
+
+pub last-answer-true : LastAnswerTrue
+last-answer-true = told.last-answer-true
 
 pub held-name-answered : HeldNameAnswered
 held-name-answered s lent events ok p n l h = rw (h .named) (told s lent events ok p (h .r) (h .c) l (h .holds))

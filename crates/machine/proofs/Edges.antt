@@ -1,27 +1,23 @@
 -- The table of 01's starred edges, proved: the runs by computing them, the open ones from what an accepted setup leaves.
-use mathlib.Core.Path.{_≡_, refl, sym, ap, _∙_}
+use mathlib.Core.Path.{_≡_, refl, _∙_}
 use mathlib.Core.Bool.{Bool, true, false, cond, _&&_}
-use mathlib.Core.List.{[], _∷_}
-use Prim.Native.Nat.{ℕ, _+_, _≤_, _<_}
-use native.Mathlib.Nat.{le-refl}
+use Prim.Native.Nat.{ℕ, _<_}
 use native.Mathlib.Omega.{arith}
-use lib.Dec.{T, leb, eqb, leb→le}
-use borrow.Author.Tests.{le-leb, lt-leb, eq-eqb}
-use Rattle.machine.specs.Settings.{permitted}
-use Rattle.machine.specs.Places.{half, placeNumber, nameNumber}
-use Rattle.machine.specs.Memory.{Memory, count, firstBad, stateOf, outOf}
+use lib.Dec.{T, eqb}
+use borrow.Author.Tests.{le-leb, lt-leb}
+use Rattle.machine.specs.Places.{half, placeNumber}
+use Rattle.machine.specs.Memory.{Memory, count, firstBad}
 use Rattle.machine.specs.Turn.{arrive}
 use Rattle.machine.specs.Answers.{isAccepted}
-use Rattle.machine.specs.Calls.{call, setup, verdictOf, refuseOr, accept, standing}
+use Rattle.machine.specs.Calls.{call, setup, verdictOf, standing}
 use Rattle.machine.specs.Listing.{decimal}
 use Rattle.machine.specs.Worst.{ask, release}
-use Rattle.machine.specs.Demands.{SetUp, used}
-use Rattle.machine.specs.Edges.{Passes, FiveNames, NoTurns, LoneTask, TheOtherTask, OneTimePair, TheListing, TwoOut, LastIdentifier, NoRelease, NoReleaseIdle, Edges, named}
+use Rattle.machine.specs.Demands.{SetUp}
+use Rattle.machine.specs.Edges.{FiveNames, NoTurns, LoneTask, TheOtherTask, OneTimePair, TheListing, TwoOut, LastIdentifier, NoRelease, NoReleaseIdle, Edges}
 use Rattle.machine.specs.declared.Settings.{Settings}
 use Rattle.machine.specs.declared.State.{State}
 use Rattle.machine.specs.declared.State.the-variants.{Idle, Seeking, Holding}
 use Rattle.machine.specs.declared.Verdict.{Verdict}
-use Rattle.machine.specs.declared.Answer.{Answer}
 use Rattle.machine.proofs.Limits.{limits}
 use Rattle.machine.proofs.Fresh.{setup-permitted, fresh-passes, fresh-idle, fresh-none-out, verdict-past-range}
 
@@ -48,12 +44,12 @@ the-listing = (refl, refl, refl)
 two-out : TwoOut
 unfolding half placeNumber count firstBad
 two-out = (
-  (refl, refl, refl, refl),
-  (refl, refl, refl, refl),
-  (refl, refl, refl, refl),
-  (refl, refl, refl, refl),
-  (refl, refl, refl, refl),
-  (refl, refl, refl, refl),
+  (refl, refl, refl, refl, refl, refl, refl, refl),
+  (refl, refl, refl, refl, refl, refl, refl, refl),
+  (refl, refl, refl, refl, refl, refl, refl, refl),
+  (refl, refl, refl, refl, refl, refl, refl, refl),
+  (refl, refl, refl, refl, refl, refl, refl, refl),
+  (refl, refl, refl, refl, refl, refl, refl, refl),
 )
 
 -- an ask of a task below N, right after setup, is accepted

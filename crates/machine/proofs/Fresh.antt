@@ -1,29 +1,26 @@
 -- What an accepted setup leaves: a memory that passes the tests 1 to 3, with every task idle.
-use mathlib.Core.Path.{_≡_, refl, sym, ap, _∙_}
-use mathlib.Core.Bool.{Bool, true, false, not, _||_, cond}
-use mathlib.Core.List.{List, [], _∷_, _++_}
-use Prim.Native.Nat.{ℕ, zero, suc, _+_, _≤_, _<_, zero-le}
-use native.Mathlib.Nat.{le-refl, not-suc-le-zero}
+use mathlib.Core.Path.{_≡_, refl, ap, _∙_}
+use mathlib.Core.Bool.{Bool, true, false, not}
+use mathlib.Core.List.{List, [], _∷_}
+use Prim.Native.Nat.{ℕ, _≤_, _<_, zero-le}
+use native.Mathlib.Nat.{le-refl}
 use native.Mathlib.Omega.{arith}
-use lib.Dec.{T, leb, ltb, le→leb}
+use lib.Dec.{T, ltb, le→leb}
 use lib.ListN.{length, getD, replicate, drop, length-append, length-replicate, getD-replicate, List·getD-append}
 use borrow.Author.Tests.{le-ltb}
 use Rattle.machine.specs.Settings.{permitted}
 use Rattle.machine.specs.Places.{blocks}
 use Rattle.machine.specs.Records.{idle, isOut, recordInRange}
-use Rattle.machine.specs.Memory.{Memory, marksNeeded, stateOf, xInRange, markInRange, firstBad, badRecord, badX, badMark, outOf, viewOf, fill}
-use Rattle.machine.specs.Refusals.{first, when, outsideLimits, rowShort, noSuchTask, oneTimeRelease, wrongMoment, tooManyOut, setupVerdict}
+use Rattle.machine.specs.Memory.{Memory, marksNeeded, stateOf, xInRange, markInRange, firstBad, outOf, fill}
+use Rattle.machine.specs.Refusals.{first, when, outsideLimits, rowShort, noSuchTask, oneTimeRelease, wrongMoment, tooManyOut}
 use Rattle.machine.specs.Calls.{Outcome, refuseOr, verdictOf, cleared, setup}
 use Rattle.machine.specs.Demands.{SetUp}
 use Rattle.machine.specs.Edges.{Passes}
 use Rattle.machine.specs.declared.Settings.{Settings}
-use Rattle.machine.specs.declared.State.{State}
 use Rattle.machine.specs.declared.State.the-variants.{Idle}
 use Rattle.machine.specs.declared.Record.{Record}
 use Rattle.machine.specs.declared.Event.{Event}
-use Rattle.machine.specs.declared.Refusal.{Refusal}
 use Rattle.machine.specs.declared.Refusal.the-variants.{Limits, ShortRow, NoSuchTask, OneTime, WrongMoment, TooManyOut}
-use Rattle.machine.specs.declared.Verdict.{Verdict}
 use Rattle.machine.specs.declared.Answer.{Answer}
 use Rattle.machine.proofs.Bools.{is-true}
 use Rattle.machine.proofs.Searching.{none-bad, count-none}

@@ -8,6 +8,7 @@ pub mod Ranges
 pub mod Turning
 pub mod Triangle
 pub mod Searching
+pub mod Determined
 -- the table of 01's edges
 pub mod Fresh
 pub mod Edges

@@ -1,7 +1,7 @@
 -- What a record in range says of its numbers.
 use mathlib.Core.Path.{_≡_}
 use Prim.Native.Nat.{ℕ, _+_, _≤_, _<_}
-use lib.Dec.{T, leb, ltb, leb→le, ltb→lt}
+use lib.Dec.{T, leb, leb→le, ltb→lt}
 use Rattle.machine.specs.Settings.{width}
 use Rattle.machine.specs.Records.{pointInRange, stateInRange}
 use Rattle.machine.specs.declared.Settings.{Settings}

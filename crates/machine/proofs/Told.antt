@@ -1,24 +1,30 @@
--- Demand 3 speaks of names that tasks hold; callers know the names that they were answered. The two agree: the name that a task holds is the
--- one that its last accepted ask or turn answered, and the one that its release answers.
+-- Demand 3 speaks of names that tasks hold; callers know what they were answered. The two agree: a task is where its last accepted answer says.
+-- Every accepted call could break it: its answer is read off the record that it leaves.
 use mathlib.Core.Path.{_≡_, refl, sym, ap, _∙_}
-use mathlib.Core.Bool.{Bool, true, false, not, cond, _&&_}
+use mathlib.Core.Bool.{Bool, true, false, not, cond, _&&_, true≢false, false≢true}
 use mathlib.Core.List.{List, [], _∷_}
-use Prim.Native.Nat.{ℕ, _<_}
+use Prim.Native.Nat.{ℕ, _+_, _<_}
 use native.Mathlib.Omega.{arith}
 use lib.Dec.{T, eqb}
 use borrow.Author.Tests.{eqb-true, eqb-false, ne-eqb}
-use Rattle.machine.specs.Settings.{permitted}
+use Rattle.machine.specs.Settings.{permitted, width}
 use Rattle.machine.specs.Places.{nameNumber}
-use Rattle.machine.specs.Records.{isHolding}
+use Rattle.machine.specs.Records.{isHolding, isOut}
 use Rattle.machine.specs.Memory.{Memory, stateOf}
+use Rattle.machine.specs.Turn.{pointAccess, value, arrive, move, leave, pointTurned}
+use Rattle.machine.specs.Refusals.{wrongMoment}
 use Rattle.machine.specs.Answers.{isAccepted}
-use Rattle.machine.specs.Calls.{Outcome, nameAt, standing, freed, nextState, accept, call, setup}
+use Rattle.machine.specs.Calls.{Outcome, standing, answerOf, nextState, call, setup}
 use Rattle.machine.specs.History.{run, history}
 use Rattle.machine.specs.Worst.{release}
-use Rattle.machine.specs.Demands.{SetUp, memoryAfter, asksOrTurns, lastAnswer, Told}
+use Rattle.machine.specs.Demands.{SetUp, memoryAfter, lastAnswer, TrueOf, LastAnswerTrue, Told}
 use Rattle.machine.specs.declared.Settings.{Settings}
+use Rattle.machine.specs.declared.Direction.{Direction}
+use Rattle.machine.specs.declared.Direction.the-variants.{Right, Down}
+use Rattle.machine.specs.declared.Point.{Point}
+use Rattle.machine.specs.declared.Point.the-variants.{WriteX, Scan, WriteMark, ReadX, Clear}
 use Rattle.machine.specs.declared.State.{State}
-use Rattle.machine.specs.declared.State.the-variants.{Idle, Holding}
+use Rattle.machine.specs.declared.State.the-variants.{Idle, Seeking, Holding}
 use Rattle.machine.specs.declared.Kind.{Kind}
 use Rattle.machine.specs.declared.Kind.the-variants.{Ask, Turn, Release}
 use Rattle.machine.specs.declared.Event.{Event}
@@ -30,54 +36,92 @@ use Rattle.machine.proofs.Steps.{caller-after, others-after}
 use Rattle.machine.proofs.Outcomes.{Open, Called, taken, refused, accepted-answer, called, open-accepted}
 use Rattle.machine.proofs.Histories.{Fine, fine-kept, fresh-fine, always-fine}
 
--- a task holds only what was answered last
-abbrev Heard : Settings → ℕ → Memory → Answer → Type 0
-Heard s p m answer = (r c : ℕ) → stateOf m p ≡ Holding r c → answer ≡ Answer.Holds (nameAt s r c)
+-- ---- an accepted call
 
--- the last answer to an ask or a turn of task p, after one more call
+-- a task that stands is told where
+standing-true : (s : Settings) (state : State) → isOut state ≡ true → TrueOf s state (standing s state)
+standing-true s Idle out = absurd (false≢true out)
+standing-true s (Seeking r c point) out = refl
+standing-true s (Holding r c) out = refl
+
+arrive-out : (s : Settings) (r c : ℕ) → isOut (arrive s r c) ≡ true
+arrive-out s r c = go (eqb (r + c + 1) (s .k))
+  where
+    go : (edge : Bool) → isOut (cond edge (Holding r c) (Seeking r c WriteX)) ≡ true
+    go true = refl
+    go false = refl
+
+leave-out : (s : Settings) (r c : ℕ) (direction : Direction) → isOut (leave s r c direction) ≡ true
+leave-out s r c direction = go (eqb (s .mode) 0) direction
+  where
+    go : (once : Bool) (d : Direction) → isOut (cond once (move s r c d) (Seeking r c (Clear d))) ≡ true
+    go true Right = arrive-out s r (c + 1)
+    go true Down = arrive-out s (r + 1) c
+    go false d = refl
+
+-- a seeking task is out after its turn
+turned-out : (s : Settings) (p r c : ℕ) (point : Point) (v : ℕ) → isOut (pointTurned s p r c point v) ≡ true
+turned-out s p r c WriteX v = refl
+turned-out s p r c (Scan h) v = go (eqb v 1) (eqb (h + 1) (width s))
+  where
+    go : (met last : Bool) → isOut (cond met (leave s r c Right) (cond last (Seeking r c WriteMark) (Seeking r c (Scan (h + 1))))) ≡ true
+    go true last = leave-out s r c Right
+    go false true = refl
+    go false false = refl
+turned-out s p r c WriteMark v = refl
+turned-out s p r c ReadX v = go (eqb v (p + 1))
+  where
+    go : (its : Bool) → isOut (cond its (Holding r c) (leave s r c Down)) ≡ true
+    go true = refl
+    go false = leave-out s r c Down
+turned-out s p r c (Clear Right) v = arrive-out s r (c + 1)
+turned-out s p r c (Clear Down) v = arrive-out s (r + 1) c
+
+-- what an accepted call answers is true of the record that it leaves
+answer-true : (s : Settings) (kind : Kind) (p : ℕ) (state : State) (m : Memory) → wrongMoment kind state ≡ false
+    → TrueOf s (nextState s kind p state m) (answerOf s kind state (nextState s kind p state m))
+answer-true s Ask p state m e = standing-true s (arrive s 0 0) (arrive-out s 0 0)
+answer-true s Turn p Idle m e = absurd (true≢false e)
+answer-true s Turn p (Seeking r c point) m e =
+    standing-true s (nextState s Turn p (Seeking r c point) m) (turned-out s p r c point (value s (pointAccess s p r c point) m))
+answer-true s Turn p (Holding r c) m e = absurd (true≢false e)
+answer-true s Release p Idle m e = absurd (true≢false e)
+answer-true s Release p (Seeking r c point) m e = absurd (true≢false e)
+answer-true s Release p (Holding r c) m e = tt
+
+-- ---- a history
+
+-- the last answer of task p, after one more call
 abbrev heard : ℕ → Event → Outcome → Answer → Answer
-heard p event outcome before =
-    cond (isAccepted (outcome .answer) && (eqb (event .task .0) p && asksOrTurns (event .kind))) (outcome .answer) before
-
-idle-holds-not : (r c : ℕ) → Idle ≡ Holding r c → ⊥
-idle-holds-not r c e = let z : _≡_ {A = ℕ} 0 1 = cc in omega arith
+heard p event outcome before = cond (isAccepted (outcome .answer) && eqb (event .task .0) p) (outcome .answer) before
 
 module _ (s : Settings) (fair : T (permitted s)) (p : ℕ) (m : Memory) (sound : Sound s m) (before : Answer) where
-  standing-told : (state : State) (r c : ℕ) → state ≡ Holding r c
-      → cond (isAccepted (standing s state) && (true && true)) (standing s state) before ≡ Answer.Holds (nameAt s r c)
-  standing-told state r c e = rw e
-
-  -- a call of task p itself
-  own-call-heard : (kind : Kind) → p < s .n → Heard s p (accept s kind p (stateOf m p) m .memory)
-      (cond (isAccepted (accept s kind p (stateOf m p) m .answer) && (true && asksOrTurns kind)) (accept s kind p (stateOf m p) m .answer) before)
-  own-call-heard Ask l r c e =
-      standing-told (nextState s Ask p (stateOf m p) m) r c (sym (caller-after s (limits s fair) m sound p l Ask (stateOf m p)) ∙ e)
-  own-call-heard Turn l r c e =
-      standing-told (nextState s Turn p (stateOf m p) m) r c (sym (caller-after s (limits s fair) m sound p l Turn (stateOf m p)) ∙ e)
-  own-call-heard Release l r c e =
-      absurd (idle-holds-not r c (sym (caller-after s (limits s fair) m sound p l Release (stateOf m p)) ∙ e))
-
-  heard-kept : (event : Event) → Heard s p m before → Heard s p (call s event m .memory) (heard p event (call s event m) before)
+  heard-kept : (event : Event) → TrueOf s (stateOf m p) before → TrueOf s (stateOf (call s event m .memory) p) (heard p event (call s event m) before)
   heard-kept event h = go (call s event m) (called s fair event m sound) (eqb (event .task .0) p) refl
     where
       go : (outcome : Outcome) → Called s event m outcome → (its : Bool) → eqb (event .task .0) p ≡ its
-          → Heard s p (outcome .memory) (cond (isAccepted (outcome .answer) && (its && asksOrTurns (event .kind))) (outcome .answer) before)
+          → TrueOf s (stateOf (outcome .memory) p) (cond (isAccepted (outcome .answer) && its) (outcome .answer) before)
       go outcome (refused why) its e = h
       go outcome (taken o) true e =
           let z : event .task .0 ≡ p = eqb-true (event .task .0) p e in
-          rw z (own-call-heard (event .kind) (rw z at (o .below)))
+          let own = caller-after s (limits s fair) m sound (event .task .0) (o .below) (event .kind) (stateOf m (event .task .0)) in
+          rw (accepted-answer s event m, ← z, own) (answer-true s (event .kind) (event .task .0) (stateOf m (event .task .0)) m (o .moment))
       go outcome (taken o) false e =
           let d : p ≡ event .task .0 → ⊥ = λ f. eqb-false (event .task .0) p e (sym f) in
-          rw (accepted-answer s event m)
-          (λ r c f.
-          h r c (sym (others-after s (limits s fair) m sound (event .task .0) (o .below) (event .kind) (stateOf m (event .task .0)) p d) ∙ f))
+          rw (accepted-answer s event m, others-after s (limits s fair) m sound (event .task .0) (o .below) (event .kind) (stateOf m (event .task .0)) p d) h
 
-last-heard : (s : Settings) (fair : T (permitted s)) (p : ℕ) (events : List Event) (m : Memory) (before : Answer) → Fine s fair m → Heard s p m before
-    → Heard s p (run s events m) (lastAnswer p (history s events m) before)
+last-heard : (s : Settings) (fair : T (permitted s)) (p : ℕ) (events : List Event) (m : Memory) (before : Answer) → Fine s fair m
+    → TrueOf s (stateOf m p) before → TrueOf s (stateOf (run s events m) p) (lastAnswer p (history s events m) before)
 last-heard s fair p [] m before f h = h
 last-heard s fair p (event ∷ events) m before f h =
     last-heard s fair p events (call s event m .memory) (heard p event (call s event m) before) (fine-kept s fair event m f)
     (heard-kept s fair p m (f .good .sound) before event h)
+
+pub last-answer-true : LastAnswerTrue
+last-answer-true s lent events ok p l =
+    last-heard s (setup-permitted s lent ok) p events (setup s lent .memory) Answer.Done (fresh-fine s lent ok) (rw (fresh-idle s lent ok p l) tt)
+
+-- ---- the name that is freed
 
 holder-open : (s : Settings) (m : Memory) (p r c : ℕ) → p < s .n → s .mode ≡ 1 → stateOf m p ≡ Holding r c → Open s (release p) m
 holder-open s m p r c l one e = record {
@@ -93,9 +137,6 @@ told s lent events ok p r c l e =
     let fair = setup-permitted s lent ok in
     let m = memoryAfter s lent events in
     record {
-      answered = last-heard s fair p events (setup s lent .memory) Answer.Done (fresh-fine s lent ok) never r c e;
+      answered = rw e at (last-answer-true s lent events ok p l);
       freed = λ one. rw (open-accepted s fair (release p) m (always-fine s lent ok events .good .sound) (holder-open s m p r c l one e), e);
     }
-  where
-    never : Heard s p (setup s lent .memory) Answer.Done
-    never i j f = absurd (idle-holds-not i j (sym (fresh-idle s lent ok p l) ∙ f))

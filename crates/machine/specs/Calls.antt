@@ -1,6 +1,4 @@
 -- 01, "Rules of the grid": setup, ask, turn and release, from the memory before to the answer and the memory after.
-use mathlib.Core.Bool.{Bool, true, false}
-use mathlib.Core.List.{List, [], _∷_}
 use Prim.Native.Nat.{ℕ}
 use Rattle.machine.specs.Places.{blocks, nameNumber}
 use Rattle.machine.specs.Records.{idle}
@@ -43,10 +41,11 @@ answerOf s Ask before after = standing s after
 answerOf s Turn before after = standing s after
 answerOf s Release before after = freed s before
 
--- an accepted call of a task whose record says `state`: the register is read and written, and the next record put in place
+-- the next record of a task whose record says `state`, from the value that its access reads
 abbrev pub nextState : Settings → Kind → ℕ → State → Memory → State
 nextState s kind p state m = next s kind p state (value s (access s kind p state) m)
 
+-- an accepted call: the register is read and written, and the next record put in place
 abbrev pub accept : Settings → Kind → ℕ → State → Memory → Outcome
 accept s kind p state m = record {
   answer = answerOf s kind state (nextState s kind p state m);
@@ -58,10 +57,11 @@ abbrev pub refuseOr : Verdict → Memory → Outcome → Outcome
 refuseOr Verdict.Accepted m outcome = outcome
 refuseOr (Verdict.Refused why) m outcome = record { answer = Answer.Refused why; memory = m }
 
--- ask, turn or release of one task
+-- what the tests of a call say of a memory
 abbrev pub verdictOf : Settings → Event → Memory → Verdict
 verdictOf s event m = verdict s (event .kind) (event .task .0) (viewOf s (m .records) (event .task .0)) (m .xs) (m .marks)
 
+-- ask, turn or release of one task
 abbrev pub call : Settings → Event → Memory → Outcome
 call s event m = refuseOr (verdictOf s event m) m (accept s (event .kind) (event .task .0) (stateOf m (event .task .0)) m)
 

@@ -10,16 +10,13 @@ use Rattle.machine.specs.Places.{names, nameNumber}
 use Rattle.machine.specs.Records.{isSeeking, isHolding}
 use Rattle.machine.specs.Memory.{Memory, stateOf}
 use Rattle.machine.specs.Answers.{isAccepted}
-use Rattle.machine.specs.Calls.{call, setup}
+use Rattle.machine.specs.Calls.{nameAt, call, setup}
 use Rattle.machine.specs.History.{run, Answered, history, turnsOf}
 use Rattle.machine.specs.Listing.{largest}
-use Rattle.machine.specs.Worst.{ask, turn, release, turns, worst}
+use Rattle.machine.specs.Worst.{turn, release, turns, worst}
 use Rattle.machine.specs.declared.Settings.{Settings}
-use Rattle.machine.specs.declared.Name.{Name}
 use Rattle.machine.specs.declared.State.{State}
-use Rattle.machine.specs.declared.State.the-variants.{Holding}
-use Rattle.machine.specs.declared.Kind.{Kind}
-use Rattle.machine.specs.declared.Kind.the-variants.{Ask, Turn, Release}
+use Rattle.machine.specs.declared.State.the-variants.{Idle, Seeking, Holding}
 use Rattle.machine.specs.declared.Event.{Event}
 use Rattle.machine.specs.declared.Answer.{Answer}
 
@@ -53,17 +50,21 @@ Seeks m p = T (isSeeking (stateOf m p))
 abbrev pub HoldsSome : Memory → ℕ → Type 0
 HoldsSome m p = T (isHolding (stateOf m p))
 
--- what the last accepted ask or turn of task p answered; `before` where there was none
-abbrev pub asksOrTurns : Kind → Bool
-asksOrTurns Ask = true
-asksOrTurns Turn = true
-asksOrTurns Release = false
-
+-- what the last accepted call of task p answered; `before` where there was none
 abbrev pub lastAnswer : ℕ → List Answered → Answer → Answer
 lastAnswer p [] before = before
-lastAnswer p (done ∷ rest) before =
-    lastAnswer p rest
-    (cond (isAccepted (done .answer) && (eqb (done .event .task .0) p && asksOrTurns (done .event .kind))) (done .answer) before)
+lastAnswer p (done ∷ rest) before = lastAnswer p rest (cond (isAccepted (done .answer) && eqb (done .event .task .0) p) (done .answer) before)
+
+-- what a task was last answered is true of its record: after "seeks" it seeks, after "holds" with a name it holds that name, and before its first
+-- ask and after "freed" it is idle
+abbrev pub TrueOf : Settings → State → Answer → Type 0
+TrueOf s Idle (Answer.Done) = Unit {0}
+TrueOf s Idle (Answer.Seeks) = ⊥
+TrueOf s Idle (Answer.Holds name) = ⊥
+TrueOf s Idle (Answer.Freed name) = Unit {0}
+TrueOf s Idle (Answer.Refused why) = ⊥
+TrueOf s (Seeking r c point) answer = answer ≡ Answer.Seeks
+TrueOf s (Holding r c) answer = answer ≡ Answer.Holds (nameAt s r c)
 
 -- the most own turns that an acquisition takes: (N+4)(k-1) long-lived, 4(k-1) one-time
 abbrev pub bound : Settings → ℕ
@@ -80,17 +81,24 @@ HeldNamesDiffer =
 -- "all below k(k+1)/2"
 abbrev pub HeldNamesBelow : Type 0
 HeldNamesBelow =
-    (s : Settings) (lent : Memory) (events : List Event) → SetUp s lent → (p n : ℕ) → p < s .n → HoldsName s (memoryAfter s lent events) p n → n < names s
+    (s : Settings) (lent : Memory) (events : List Event) → SetUp s lent → (p n : ℕ) → p < s .n
+    → HoldsName s (memoryAfter s lent events) p n → n < names s
 
--- the name that a task holds is the one that its last accepted ask or turn answered, and the one that its release answers
+-- a task is where its last accepted answer says, from its accepted ask to its accepted release
+abbrev pub LastAnswerTrue : Type 0
+LastAnswerTrue =
+    (s : Settings) (lent : Memory) (events : List Event) → SetUp s lent → (p : ℕ) → p < s .n
+    → TrueOf s (stateOf (memoryAfter s lent events) p) (lastAnswer p (historyOf s lent events) Answer.Done)
+
+-- the name that a task holds is the one that it was last answered, and the one that its release answers
 pub record Told (s : Settings) (lent : Memory) (events : List Event) (p n : ℕ) : Type 0 where
   pub answered : lastAnswer p (historyOf s lent events) Answer.Done ≡ Answer.Holds (record { 0 = n })
   pub freed : s .mode ≡ 1 → call s (release p) (memoryAfter s lent events) .answer ≡ Answer.Freed (record { 0 = n })
 
 abbrev pub HeldNameAnswered : Type 0
 HeldNameAnswered =
-    (s : Settings) (lent : Memory) (events : List Event) → SetUp s lent → (p n : ℕ) → p < s .n → HoldsName s (memoryAfter s lent events) p n
-    → Told s lent events p n
+    (s : Settings) (lent : Memory) (events : List Event) → SetUp s lent → (p n : ℕ) → p < s .n
+    → HoldsName s (memoryAfter s lent events) p n → Told s lent events p n
 
 -- "No turn of a seeking task is refused"
 abbrev pub SeekerNeverRefused : Type 0
@@ -109,12 +117,13 @@ pub record Served (s : Settings) (lent : Memory) (events : List Event) (p : ℕ)
 abbrev pub ServedWithin : Type 0
 ServedWithin = (s : Settings) (lent : Memory) (events : List Event) → SetUp s lent → (p : ℕ) → p < s .n → Served s lent events p
 
--- "For each permitted mode, N and k some sequence makes one task need exactly that many": after the calls `before` task 0 still seeks (with k = 1 it
--- has not asked), its next call lets it hold, it has then used exactly the bound, and no call is refused
+-- no call of a history is refused
 abbrev pub allAccepted : List Answered → Bool
 allAccepted [] = true
 allAccepted (done ∷ rest) = isAccepted (done .answer) && allAccepted rest
 
+-- "For each permitted mode, N and k some sequence makes one task need exactly that many": after the calls `before` task 0 still seeks (with k = 1 it
+-- has not asked), its next call lets it hold, it has then used exactly the bound, and no call is refused
 pub record NeedsBound (s : Settings) (lent : Memory) (events : List Event) : Type 0 where
   pub accepted : T (allAccepted (historyOf s lent events))
   pub before : List Event

@@ -1,8 +1,9 @@
 -- 01, "Both sides of each edge": the nine starred lines, as one statement about the definitions.
 -- A run begins with setup of a lent memory. Where a line leaves N, k, mode or task open it is stated for all that are permitted; the lines that
--- follow a run of turns are stated at the smallest and the largest N that they permit (docs/DECISIONS.md).
+-- follow a run of turns are stated at the smallest and the largest N that they permit (docs/DECISIONS.md), on the largest memory: by
+-- `SurplusNeverBears` any other memory that setup accepts gives the same answers.
 use mathlib.Core.Path.{_≡_}
-use mathlib.Core.Bool.{Bool, true, false}
+use mathlib.Core.Bool.{false}
 use mathlib.Core.List.{List, [], _∷_, _++_, map}
 use Prim.Native.Nat.{ℕ, _+_, _<_}
 use lib.Dec.{T, ltb}
@@ -18,13 +19,10 @@ use Rattle.machine.specs.Listing.{largest, bytesOf, listing}
 use Rattle.machine.specs.Worst.{ask, turn, release, turns}
 use Rattle.machine.specs.Demands.{SetUp, memoryAfter, historyOf, used, bound}
 use Rattle.machine.specs.declared.Settings.{Settings}
-use Rattle.machine.specs.declared.Name.{Name}
 use Rattle.machine.specs.declared.Event.{Event}
-use Rattle.machine.specs.declared.Refusal.{Refusal}
 use Rattle.machine.specs.declared.Refusal.the-variants.{NoSuchTask, OneTime, TooManyOut}
 use Rattle.machine.specs.declared.Answer.{Answer}
 use Rattle.machine.specs.declared.Answer.the-variants.{Seeks, Holds, Freed, Refused}
-use Rattle.machine.specs.declared.View.{View}
 
 abbrev pub settings : ℕ → ℕ → ℕ → Settings
 settings mode n k = record { mode = mode; n = n; k = k }
@@ -40,15 +38,16 @@ answers s events = map (λ (done : Answered). done .answer) (historyOf s largest
 abbrev pub acquires : ℕ → ℕ → List Event
 acquires p count = ask p ∷ turns count p
 
--- it is told that it seeks by the ask and by all of those turns but the last, which gives it the name
+-- so many times "seeks"
 abbrev pub seeksFor : ℕ → List Answer
 seeksFor ℕ.zero = []
 seeksFor (ℕ.suc count) = Seeks ∷ seeksFor count
 
+-- a task is told that it seeks by its ask and by all of so many turns but the last, which gives it the name
 abbrev pub servedAt : ℕ → ℕ → List Answer
 servedAt count name = seeksFor count ++ (named name ∷ [])
 
--- the last answer of a run
+-- the answer of one more call after a run
 abbrev pub lastOf : Settings → List Event → Event → Answer
 lastOf s events event = call s event (memoryAfter s largest events) .answer
 
@@ -115,13 +114,19 @@ OneTimePair = FirstAndLater 2 0 1 × FirstAndLater 2 1 0 × FirstAndLater 256 0 
 abbrev pub TheListing : Type 0
 TheListing = (listing sample ≡ sampleText) × (used (settings 1 2 2) largest sampleStart 0 ≡ 6) × (bound (settings 1 2 2) ≡ 6)
 
--- Mode 1, N = 3, k = 2, two out, the third task's ask: 7. After one is freed: accepted
+-- Mode 1, N = 3, k = 2, two out, the third task's ask: 7. After one is freed: accepted. The two are both at their start, or p holds, or both hold;
+-- either is freed. Behind the holder p the other needs p + 3 turns: write X, scan to p's mark, clear
 abbrev pub ThirdTask : ℕ → ℕ → ℕ → Type 0
 ThirdTask p q r =
+    let both-hold : List Event = ask p ∷ ask q ∷ (turns 6 p ++ turns (p + 3) q) in
     (lastOf (settings 1 3 2) (ask p ∷ ask q ∷ []) (ask r) ≡ Refused TooManyOut)
     × (lastOf (settings 1 3 2) (ask p ∷ ask q ∷ turns 6 p) (ask r) ≡ Refused TooManyOut)
-    × (lastOf (settings 1 3 2) (ask p ∷ ask q ∷ turns 6 p) (release p) ≡ Freed (record { 0 = 0 }))
     × (lastOf (settings 1 3 2) (ask p ∷ ask q ∷ (turns 6 p ++ (release p ∷ []))) (ask r) ≡ Seeks)
+    × (lastOf (settings 1 3 2) both-hold (ask r) ≡ Refused TooManyOut)
+    × (lastOf (settings 1 3 2) both-hold (release p) ≡ Freed (record { 0 = 0 }))
+    × (lastOf (settings 1 3 2) both-hold (release q) ≡ Freed (record { 0 = 1 }))
+    × (lastOf (settings 1 3 2) (both-hold ++ (release p ∷ [])) (ask r) ≡ Seeks)
+    × (lastOf (settings 1 3 2) (both-hold ++ (release q ∷ [])) (ask r) ≡ Seeks)
 
 abbrev pub TwoOut : Type 0
 TwoOut = ThirdTask 0 1 2 × ThirdTask 0 2 1 × ThirdTask 1 0 2 × ThirdTask 1 2 0 × ThirdTask 2 0 1 × ThirdTask 2 1 0

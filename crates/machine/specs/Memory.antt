@@ -51,6 +51,7 @@ markInRange mark = leb mark 1
 
 -- ---- searching and counting
 
+-- one more where the test passes
 abbrev pub tick : Bool → ℕ → ℕ
 tick true n = suc n
 tick false n = n
@@ -60,10 +61,11 @@ unfoldable pub count : (ℕ → Bool) → ℕ → ℕ
 count test zero = zero
 count test (suc n) = tick (test n) (count test n)
 
--- the least number below n that fails the test; n where none does
+-- an earlier finding below n stays; else n itself is tried, and n + 1 says that it is good too
 abbrev pub firstOr : ℕ → ℕ → Bool → ℕ
 firstOr earlier n good = cond (ltb earlier n) earlier (tick good n)
 
+-- the least number below n that fails the test; n where none does
 unfoldable pub firstBad : (ℕ → Bool) → ℕ → ℕ
 firstBad good zero = zero
 firstBad good (suc n) = firstOr (firstBad good n) n (good n)

@@ -1,10 +1,9 @@
 -- 01, "Memory that is lent": what a task's record says, and which records are in range.
 use mathlib.Core.Bool.{Bool, true, false, not, _&&_}
-use Prim.Native.Nat.{ℕ, _+_}
+use Prim.Native.Nat.{_+_}
 use lib.Dec.{eqb, leb, ltb}
 use Rattle.machine.specs.Settings.{width}
 use Rattle.machine.specs.declared.Settings.{Settings}
-use Rattle.machine.specs.declared.Direction.{Direction}
 use Rattle.machine.specs.declared.Point.{Point}
 use Rattle.machine.specs.declared.Point.the-variants.{WriteX, Scan, WriteMark, ReadX, Clear}
 use Rattle.machine.specs.declared.State.{State}
@@ -48,4 +47,4 @@ stateInRange s (Seeking r c point) = leb (r + c + 2) (s .k) && pointInRange s po
 stateInRange s (Holding r c) = leb (r + c + 1) (s .k)
 
 abbrev pub recordInRange : Settings → Record → Bool
-recordInRange s record1 = stateInRange s (record1 .state)
+recordInRange s this = stateInRange s (this .state)

@@ -1,13 +1,12 @@
 -- 01, "Rules of the grid", over Figures 4 and 5 of source 001. A call looks at the task's record alone to learn which register it touches, makes
 -- that one access, and hands the value read to the record: `next` sees no memory, and `store` changes one element at the most.
 -- Statement numbers in brackets: [4.n] of Figure 4, mode 0; [5.n] of Figure 5, mode 1.
-use mathlib.Core.Bool.{Bool, true, false, cond}
+use mathlib.Core.Bool.{cond}
 use Prim.Native.Nat.{ℕ, _+_}
 use lib.Dec.{eqb, leb}
 use lib.ListN.{getD}
 use Rattle.machine.specs.Settings.{width, own}
 use Rattle.machine.specs.Places.{blockNumber}
-use Rattle.machine.specs.Records.{idle}
 use Rattle.machine.specs.Memory.{Memory, markIndex, withX, withMark}
 use Rattle.machine.specs.declared.Settings.{Settings}
 use Rattle.machine.specs.declared.Direction.{Direction}

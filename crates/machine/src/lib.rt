@@ -1,5 +1,5 @@
-// What a supervisor holds and is answered: the types of the grid, in the forms and widths of the
-// schedule file, and the one step of a task's record. Every definition that a contract cites is in
+// What a supervisor holds and is answered: the types of the grid, and the one step of a task's
+// record. Every definition that a contract cites is in
 // `specs/`.
 
 ghost use mathlib.Core.Path.{_≡_};

@@ -1,12 +1,12 @@
 -- The first value of a row that is above a limit, as a search finds it: everything passed is at most the limit, and what it stopped at is above.
 use mathlib.Core.Path.{_≡_, sym}
 use mathlib.Core.List.{List}
-use Prim.Native.Nat.{ℕ, suc, _+_, _*_, _≤_, _<_}
+use Prim.Native.Nat.{ℕ, _+_, _*_, _≤_, _<_}
 use native.Mathlib.Nat.{le-of-lt, suc-mul, mul-le-mul-right, le-trans}
 use native.Mathlib.Numerals.{add-one}
 use native.Mathlib.Omega.{arith}
 use borrow.Author.Count.{below-more}
-use lib.Dec.{T, leb, le→leb}
+use lib.Dec.{leb, le→leb}
 use lib.ListN.{getD}
 use borrow.Author.Tests.{lt-leb}
 use Rattle.machine.specs.Memory.{firstBad}

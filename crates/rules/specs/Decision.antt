@@ -1,7 +1,7 @@
 -- What a call decides from what it sees of the records and from the rows of X numbers and marks: the definitions of the machine, without the
 -- row of records.
 use mathlib.Core.Path.{_≡_}
-use mathlib.Core.Bool.{Bool, true, false}
+use mathlib.Core.Bool.{false}
 use mathlib.Core.List.{List, []}
 use Prim.Native.Nat.{ℕ, _<_}
 use lib.Dec.{T, ltb}

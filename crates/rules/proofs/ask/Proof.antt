@@ -1,6 +1,5 @@
 -- `ask` decides as the definition says: a refusal puts the record back, an accepted ask comes to (0, 0).
-use mathlib.Core.Path.{_≡_, _∙_, sym, ap}
-use native.Mathlib.Omega.{arith}
+use mathlib.Core.Path.{_≡_, _∙_, sym}
 use denote.Ref.{now}
 use Rattle.machine.specs.Refusals.{verdict}
 use Rattle.machine.specs.declared.Kind.{Kind}

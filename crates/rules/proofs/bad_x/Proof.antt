@@ -1,9 +1,8 @@
 -- `bad_x` stops at the first X number above N: everything passed is at most N.
-use mathlib.Core.Path.{_≡_, sym, _∙_}
-use Prim.Native.Nat.{ℕ, _-_, _≤_, _<_}
+use mathlib.Core.Path.{_∙_}
+use Prim.Native.Nat.{_-_, _≤_}
 use native.Mathlib.Omega.{arith}
 use borrow.Author.Needs.{needs}
-use lib.ListN.{length, getD}
 use denote.Ref.{now}
 use Rattle.rules.proofs.Finding.{Low, low-more, stops-at-first, stops-at-none}
 use Rattle.machine.specs.Places.{blocks}

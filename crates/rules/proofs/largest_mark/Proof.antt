@@ -1,9 +1,9 @@
 -- `largest_mark` is at least every mark passed.
-use Prim.Native.Nat.{ℕ, _-_, _≤_, _<_}
+use Prim.Native.Nat.{_-_, _≤_}
 use native.Mathlib.Omega.{arith}
 use borrow.Author.Needs.{needs}
 use mathlib.Core.Logic.{⊎-elim}
-use lib.ListN.{length, getD}
+use lib.ListN.{getD}
 use denote.Ref.{now}
 use Rattle.rules.proofs.Finding.{Low, low-more, low-wider}
 use Rattle.rules.proofs.largest_mark.Statement.{statement}

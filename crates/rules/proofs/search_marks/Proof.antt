@@ -1,10 +1,9 @@
 -- `search_marks` stops at the first mark above 1: everything passed, block by block and place by place, is at most 1.
-use mathlib.Core.Path.{_≡_, sym, _∙_}
-use Prim.Native.Nat.{ℕ, _+_, _-_, _*_, _≤_, _<_}
+use mathlib.Core.Path.{_≡_, _∙_}
+use Prim.Native.Nat.{_+_, _-_, _*_, _≤_, _<_}
 use native.Mathlib.Nat.{zero-mul}
 use native.Mathlib.Omega.{arith}
 use borrow.Author.Needs.{needs}
-use lib.ListN.{length, getD}
 use denote.Ref.{now}
 use Rattle.machine.specs.Memory.{marksNeeded}
 use Rattle.rules.proofs.Finding.{Low, low-more, stops-at-first, stops-at-none, block-more, block-within}

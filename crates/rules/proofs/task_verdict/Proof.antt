@@ -1,5 +1,5 @@
 -- `task_verdict` is the definition's: 4, 5, 6, 7, the first that holds.
-use mathlib.Core.Path.{_≡_, _∙_, sym, ap}
+use mathlib.Core.Path.{_≡_, _∙_, sym}
 use mathlib.Core.Bool.{true, false}
 use borrow.Author.Tests.{lt-leb}
 use Rattle.machine.specs.Refusals.{noSuchTask, oneTimeRelease, wrongMoment, tooManyOut}

@@ -1,6 +1,5 @@
 -- `touch` makes the definition's one access: in each arm the register is inside its row, and one element is read or written.
 use native.Mathlib.Omega.{arith}
-use lib.ListN.{length-set}
 use Rattle.rules.proofs.Touching.{x-read, x-written, mark-read, mark-written}
 use Rattle.machine.proofs.Tests.{tests}
 use Rattle.rules.proofs.touch.Statement.{statement}

@@ -2,7 +2,7 @@
 use mathlib.Core.Path.{_≡_, _∙_, sym}
 use mathlib.Core.List.{[]}
 use denote.Ref.{now}
-use Rattle.machine.specs.Refusals.{first, lentCases, rangeCases, taskCases}
+use Rattle.machine.specs.Refusals.{first, lentCases, rangeCases}
 use Rattle.machine.specs.declared.Verdict.{Verdict}
 use Rattle.rules.proofs.Rows.{lent-passes, verdict-parts}
 use Rattle.machine.proofs.Tests.{tests}

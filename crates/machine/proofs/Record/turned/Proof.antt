@@ -1,5 +1,4 @@
 -- A record's turn is the definition's `nextRecord`: a seeking record by what the turn at its point ensures.
-use mathlib.Core.Path.{ap}
 use Rattle.machine.proofs.Tests.{tests}
 use Rattle.machine.proofs.Ranges.{seeks-on-block, seeks-at-point}
 use Rattle.machine.proofs.Record.turned.Statement.{statement}
