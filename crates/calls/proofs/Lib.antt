@@ -1,0 +1,4 @@
+-- What the proofs of the calls share.
+pub mod ByDecision
+pub mod Functions
+pub mod Making

@@ -1,0 +1,2 @@
+-- What the contracts of the calls by value cite.
+pub mod Made

@@ -1,0 +1,175 @@
+// The four calls of the grid on lent rows: setup, ask, turn and release. Each looks at the records,
+// decides by `rules`, and puts back what was decided. They take any settings, any identifier, and
+// rows of any length and contents.
+
+use machine::Answer;
+use machine::Event;
+use machine::Kind;
+use machine::Record;
+use machine::Settings;
+use machine::TaskId;
+ghost use Rattle.machine.specs.Calls.{call, setup};
+ghost use Rattle.machine.specs.Worst.{ask, turn, release};
+ghost use Rattle.machine.specs.Lent.{lent, Leaves};
+ghost use Rattle.calls.specs.Made.{outcomeOf};
+
+// What is called: setup, or ask, turn or release of one task.
+pub enum Call {
+    Setup,
+    Of(Event),
+}
+
+// The records after a call that took them by value, and its answer.
+pub struct Made {
+    pub records: [Record; 256],
+    pub answer: Answer,
+}
+
+// Setup makes the N records idle, all X 0 and all marks 0.
+pub fn setup(s: Settings, records: &mut [Record], xs: &mut [u32], marks: &mut [u8]) -> Answer
+    ensures { λ answer. ⌜ Leaves (setup s (lent (now (records .entry)) (now (xs .entry)) (now (marks .entry)))) answer (now (records .exit)) (now (xs .exit)) (now (marks .exit)) ⌝ }
+{
+    let seen = rows::look(s, records, TaskId(0));
+    let prepared = rules::setup(s, seen, xs, marks);
+    rows::fill(records, prepared.fresh);
+    prepared.answer
+}
+
+// Ask, for an idle task: it seeks at (0, 0), or holds it where k is 1.
+pub fn ask(
+    s: Settings,
+    records: &mut [Record],
+    xs: &mut [u32],
+    marks: &mut [u8],
+    task: TaskId,
+) -> Answer
+    ensures { λ answer. ⌜ Leaves (call s (ask (task .0)) (lent (now (records .entry)) (now (xs .entry)) (now (marks .entry)))) answer (now (records .exit)) (now (xs .exit)) (now (marks .exit)) ⌝ }
+{
+    let seen = rows::look(s, records, task);
+    let decided = rules::ask(s, seen, xs, marks, task);
+    rows::put(records, task.0 as usize, decided.own);
+    decided.answer
+}
+
+// Turn, for a seeking task: exactly one access.
+pub fn turn(
+    s: Settings,
+    records: &mut [Record],
+    xs: &mut [u32],
+    marks: &mut [u8],
+    task: TaskId,
+) -> Answer
+    ensures { λ answer. ⌜ Leaves (call s (turn (task .0)) (lent (now (records .entry)) (now (xs .entry)) (now (marks .entry)))) answer (now (records .exit)) (now (xs .exit)) (now (marks .exit)) ⌝ }
+{
+    let seen = rows::look(s, records, task);
+    let decided = rules::turn(s, seen, xs, marks, task);
+    rows::put(records, task.0 as usize, decided.own);
+    decided.answer
+}
+
+// Release, for a holding task of a long-lived grid: its name is free again.
+pub fn release(
+    s: Settings,
+    records: &mut [Record],
+    xs: &mut [u32],
+    marks: &mut [u8],
+    task: TaskId,
+) -> Answer
+    ensures { λ answer. ⌜ Leaves (call s (release (task .0)) (lent (now (records .entry)) (now (xs .entry)) (now (marks .entry)))) answer (now (records .exit)) (now (xs .exit)) (now (marks .exit)) ⌝ }
+{
+    let seen = rows::look(s, records, task);
+    let decided = rules::release(s, seen, xs, marks, task);
+    rows::put(records, task.0 as usize, decided.own);
+    decided.answer
+}
+
+// Setup of records that are handed over and come back.
+fn setup_of(s: Settings, records: [Record; 256], xs: &mut [u32], marks: &mut [u8]) -> Made
+    ensures { λ made. ⌜ Leaves (setup s (lent records (now (xs .entry)) (now (marks .entry)))) (made .answer) (made .records) (now (xs .exit)) (now (marks .exit)) ⌝ }
+{
+    let mut mine = records;
+    let answer = setup(s, &mut mine, xs, marks);
+    Made {
+        records: mine,
+        answer: answer,
+    }
+}
+
+// An ask on records that are handed over and come back.
+fn ask_of(
+    s: Settings,
+    records: [Record; 256],
+    xs: &mut [u32],
+    marks: &mut [u8],
+    task: TaskId,
+) -> Made
+    ensures { λ made. ⌜ Leaves (call s (ask (task .0)) (lent records (now (xs .entry)) (now (marks .entry)))) (made .answer) (made .records) (now (xs .exit)) (now (marks .exit)) ⌝ }
+{
+    let mut mine = records;
+    let answer = ask(s, &mut mine, xs, marks, task);
+    Made {
+        records: mine,
+        answer: answer,
+    }
+}
+
+// A turn on records that are handed over and come back.
+fn turn_of(
+    s: Settings,
+    records: [Record; 256],
+    xs: &mut [u32],
+    marks: &mut [u8],
+    task: TaskId,
+) -> Made
+    ensures { λ made. ⌜ Leaves (call s (turn (task .0)) (lent records (now (xs .entry)) (now (marks .entry)))) (made .answer) (made .records) (now (xs .exit)) (now (marks .exit)) ⌝ }
+{
+    let mut mine = records;
+    let answer = turn(s, &mut mine, xs, marks, task);
+    Made {
+        records: mine,
+        answer: answer,
+    }
+}
+
+// A release on records that are handed over and come back.
+fn release_of(
+    s: Settings,
+    records: [Record; 256],
+    xs: &mut [u32],
+    marks: &mut [u8],
+    task: TaskId,
+) -> Made
+    ensures { λ made. ⌜ Leaves (call s (release (task .0)) (lent records (now (xs .entry)) (now (marks .entry)))) (made .answer) (made .records) (now (xs .exit)) (now (marks .exit)) ⌝ }
+{
+    let mut mine = records;
+    let answer = release(s, &mut mine, xs, marks, task);
+    Made {
+        records: mine,
+        answer: answer,
+    }
+}
+
+// A call for callers that hold 256 records by value: they are lent to the calls above and come back,
+// so that whoever calls this needs no walk.
+pub fn make(
+    s: Settings,
+    call: Call,
+    records: [Record; 256],
+    xs: &mut [u32],
+    marks: &mut [u8],
+) -> Made
+    ensures { λ made. ⌜ Leaves (outcomeOf s call (lent records (now (xs .entry)) (now (marks .entry)))) (made .answer) (made .records) (now (xs .exit)) (now (marks .exit)) ⌝ }
+{
+    match call {
+        Call::Setup => setup_of(s, records, xs, marks),
+        Call::Of(event) => {
+            let kind = event.kind;
+            let task = event.task;
+            match kind {
+                Kind::Ask => ask_of(s, records, xs, marks, task),
+                Kind::Turn => turn_of(s, records, xs, marks, task),
+                Kind::Release => release_of(s, records, xs, marks, task),
+            }
+        }
+    }
+}

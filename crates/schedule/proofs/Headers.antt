@@ -1,0 +1,95 @@
+-- What opening's tests but the last show of a file that passes them, and how the later tests follow.
+use mathlib.Core.Path.{_≡_, refl, sym, ap, _∙_}
+use mathlib.Core.Bool.{true, false}
+use mathlib.Core.List.{List, []}
+use Prim.Native.Nat.{ℕ, _+_, _≤_, _<_}
+use lib.ListN.{length}
+use borrow.Author.Tests.{ltb-false, eqb-true, not-false, le-ltb, le-leb, lt-leb, eq-eqb}
+use Rattle.machine.specs.Settings.{permitted}
+use Rattle.machine.specs.Refusals.{first}
+use Rattle.machine.specs.File.{mostEvents, fileLength, lettersRight, versionOf, settingsOf, countOf, anyBelow, codeBad, eventAt, headerCases, openVerdict, openingBy, opening, Read, readBy, reading}
+use Rattle.machine.specs.declared.Settings.{Settings}
+use Rattle.machine.specs.declared.Refusal.{Refusal}
+use Rattle.machine.specs.declared.Refusal.the-variants.{NoEvent}
+use Rattle.machine.specs.declared.Verdict.{Verdict}
+use Rattle.machine.specs.declared.Verdict.the-variants.{Accepted, Refused}
+use Rattle.machine.specs.declared.Opening.{Opening}
+use Rattle.machine.specs.declared.Reading.{Reading}
+use Rattle.schedule.specs.Cases.{codeCases, eventCases}
+use Rattle.schedule.proofs.Cases.{first-passed, first-then, first-stays, first-both}
+
+-- what each test shows
+pub record Header (file : List ℕ) : Type 0 where
+  pub long : 11 ≤ length file
+  pub letters : lettersRight file ≡ true
+  pub version : versionOf file ≡ 1
+  pub limits : permitted (settingsOf file) ≡ true
+  pub few : countOf file ≤ mostEvents
+  pub whole : length file ≡ fileLength (countOf file)
+
+pub header-accepted : (file : List ℕ) → first (headerCases file []) ≡ Accepted → Header file
+header-accepted file accepted =
+    let long = first-passed _ _ _ accepted in
+    let letters = first-passed _ _ _ (long .1) in
+    let version = first-passed _ _ _ (letters .1) in
+    let limits = first-passed _ _ _ (version .1) in
+    let few = first-passed _ _ _ (limits .1) in
+    let whole = first-passed _ _ _ (few .1) in
+    record {
+      long = ltb-false _ _ (long .0);
+      letters = not-false _ (letters .0);
+      version = eqb-true _ _ (not-false _ (version .0));
+      limits = not-false _ (limits .0);
+      few = ltb-false _ _ (few .0);
+      whole = eqb-true _ _ (not-false _ (whole .0));
+    }
+
+pub header-accepts : (file : List ℕ) → Header file → first (headerCases file []) ≡ Accepted
+header-accepts file good =
+    rw
+    (le-ltb _ _ (good .long), good .letters, eq-eqb _ _ (good .version), good .limits, le-ltb _ _ (good .few), eq-eqb _ _ (good .whole))
+
+-- a header's refusal is the file's, and a header that passes leaves the later tests
+module _ (file : List ℕ) (verdict : Verdict) (is : verdict ≡ first (headerCases file [])) where
+  pub opening-refused : (why : Refusal) → verdict ≡ Refused why → Opening.Refused why ≡ opening file
+  opening-refused why e = ap (λ (v : Verdict). openingBy v (settingsOf file) (countOf file)) (sym (first-stays (headerCases file []) (codeCases file) why (sym is ∙ e)))
+
+  pub opening-passed : verdict ≡ Accepted → opening file ≡ openingBy (first (codeCases file)) (settingsOf file) (countOf file)
+  opening-passed e = ap (λ (v : Verdict). openingBy v (settingsOf file) (countOf file)) (first-then (headerCases file []) (codeCases file) (sym is ∙ e))
+
+  pub reading-refused : (at : ℕ) (why : Refusal) → verdict ≡ Refused why → _≡_ {A = Read} (record { answer = Reading.Refused why; at = at }) (reading file at)
+  reading-refused at why e = ap (λ (v : Verdict). readBy v (eventAt file at) at) (sym (first-stays (headerCases file []) (eventCases file at) why (sym is ∙ e)))
+
+  pub reading-passed : (at : ℕ) → verdict ≡ Accepted → reading file at ≡ readBy (first (eventCases file at)) (eventAt file at) at
+  reading-passed at e = ap (λ (v : Verdict). readBy v (eventAt file at) at) (first-then (headerCases file []) (eventCases file at) (sym is ∙ e))
+
+  pub passed : verdict ≡ Accepted → Header file
+  passed e = header-accepted file (sym is ∙ e)
+
+-- ---- an accepted file
+
+-- the file passes every test, and these are its settings and its count
+pub record Accepts (file : List ℕ) (s : Settings) (count : ℕ) : Type 0 where
+  pub passes : first (headerCases file []) ≡ Accepted
+  pub codes : anyBelow (codeBad file) (countOf file) ≡ false
+  pub its : settingsOf file ≡ s
+  pub counted : countOf file ≡ count
+
+pub file-accepted : (file : List ℕ) (s : Settings) (count : ℕ) → opening file ≡ Opening.Opened s count → Accepts file s count
+file-accepted file s count e = go (openVerdict file) refl e
+  where
+    go : (v : Verdict) → openVerdict file ≡ v → openingBy v (settingsOf file) (countOf file) ≡ Opening.Opened s count → Accepts file s count
+    go Accepted is e =
+        let parts = first-both (headerCases file []) (codeCases file) is in
+        record { passes = parts .0; codes = first-passed _ _ _ (parts .1) .0; its = cc; counted = cc }
+    go (Refused why) is e = record { passes = cc; codes = cc; its = cc; counted = cc }
+
+-- the event at a position before the count is given, and the reader moves on
+pub reading-given : (file : List ℕ) → first (headerCases file []) ≡ Accepted → (at : ℕ) → at < countOf file → codeBad file at ≡ false
+    → _≡_ {A = Read} (reading file at) (record { answer = Reading.Given (eventAt file at); at = at + 1 })
+reading-given file passes at l known = reading-passed file _ refl at passes ∙ rw (lt-leb _ _ l, known)
+
+-- at the count the reader is told that there is no event
+pub reading-ends : (file : List ℕ) → first (headerCases file []) ≡ Accepted → (at : ℕ) → countOf file ≤ at
+    → _≡_ {A = Read} (reading file at) (record { answer = Reading.Refused NoEvent; at = at })
+reading-ends file passes at l = reading-passed file _ refl at passes ∙ rw (le-leb _ _ l)

@@ -1,0 +1,41 @@
+-- 16 bits and event numbers, taken apart into bytes and put together again.
+use mathlib.Core.Path.{_≡_, refl, ap, _∙_}
+use mathlib.Core.List.{[], _∷_}
+use Prim.Native.Nat.{ℕ, zero, suc, _+_, _*_, _/_, _%_, _≤_, _<_}
+use native.Mathlib.Omega.{arith}
+use Rattle.machine.specs.Answers.{codeOf}
+use Rattle.machine.specs.File.{codeIn, eventBytes, kindOf}
+
+-- the low byte of a number, what stands above it, and the byte above it
+pub low-byte : (low rest : ℕ) → low < 256 → (low + 256 * rest) % 256 ≡ low
+low-byte low rest l = omega arith
+
+above-byte : (low rest : ℕ) → low < 256 → (low + 256 * rest) / 256 ≡ rest
+above-byte low rest l = omega arith
+
+pub high-byte : (low high : ℕ) → low < 256 → high < 256 → (low + 256 * high) / 256 % 256 ≡ high
+high-byte low high l h = ap (λ (n : ℕ). n % 256) (above-byte low high l) ∙ omega arith
+
+pub bytes-of-word : (n : ℕ) → n < 65536 → n % 256 + 256 * (n / 256 % 256) ≡ n
+bytes-of-word n l = omega arith
+
+-- a code's kind has that code
+pub kind-code : (code : ℕ) → code ≤ 2 → codeOf (kindOf code) ≡ code
+kind-code zero l = refl
+kind-code (suc zero) l = refl
+kind-code (suc (suc zero)) l = refl
+kind-code (suc (suc (suc n))) l = let none : ⊥ = omega arith in absurd none
+
+-- an event's number has that event's bytes
+pub event-of-bytes : (code low high : ℕ) → code ≤ 2 → low < 256 → high < 256
+    → eventBytes (codeOf (kindOf code) * 65536 + (low + 256 * high)) ≡ code ∷ low ∷ high ∷ []
+event-of-bytes code low high c l h =
+    let e : codeOf (kindOf code) ≡ code = kind-code code c in
+    let above : (code * 65536 + (low + 256 * high)) / 65536 ≡ code = omega arith in
+    let sum : code * 65536 + (low + 256 * high) ≡ low + 256 * (high + 256 * code) = omega arith in
+    rw (e, above, sum, low-byte low (high + 256 * code) l, above-byte low (high + 256 * code) l, low-byte high code h)
+
+-- and those bytes that number
+pub bytes-of-event : (number : ℕ) → codeIn number ≤ 2
+    → codeOf (kindOf (codeIn number)) * 65536 + (number % 256 + 256 * (number / 256 % 256)) ≡ number
+bytes-of-event number c = ap (λ (code : ℕ). code * 65536 + (number % 256 + 256 * (number / 256 % 256))) (kind-code (codeIn number) c) ∙ omega arith

@@ -1,0 +1,1 @@
+// No function: what every walk over lent records shares is in `proofs/`.
