@@ -2,6 +2,7 @@
 -- gives the next.
 use mathlib.Core.Path.{_≡_, _∙_, sym, ap}
 use denote.Ref.{now}
+use Rattle.machine.specs.Turn.{nextRecord}
 use Rattle.machine.specs.Refusals.{verdict}
 use Rattle.machine.specs.declared.Kind.{Kind}
 use Rattle.machine.specs.declared.Verdict.{Verdict}
@@ -53,7 +54,8 @@ standing-requires c κs =
     let access = c .before .before .before .before .before .touch .ensures ∙ ap (λ t. touching (a .s) t (rows (now (a .xs)) (now (a .marks)))) (c .before .before .before .before .before .before .before .before .turn-access .ensures) in
     let read = ap (λ (t : Touched). t .value) access in
     let next = next-in-range (a .s) (limits (a .s) (ok .limits)) Kind.Turn (a .task .0) (a .seen .own .state) (rows (now (a .xs)) (now (a .marks))) (ok .moment) good in
-    (ok .limits, rw (c .turned .ensures, read) next)
+    let turned : c .turned .result ≡ nextRecord (a .s) (a .task .0) (a .seen .own) (c .before .before .before .before .before .touch .result) = c .turned .ensures in
+    (ok .limits, rw (turned, read) next)
 
 same-length : tie.Need-same-length
 same-length c = search tests

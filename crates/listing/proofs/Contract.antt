@@ -1,0 +1,81 @@
+-- Laws of the listing's contract: a room too short, the text in a room long enough, and that the contract determines both.
+use mathlib.Core.Path.{_≡_, refl, sym, ap, _∙_}
+use mathlib.Core.Bool.{Bool, true, false, cond}
+use mathlib.Core.List.{List, _++_}
+use Prim.Native.Nat.{ℕ, _≤_, _<_}
+use native.Mathlib.Nat.{zero-add}
+use native.Mathlib.Omega.{arith}
+use lib.Dec.{ltb}
+use lib.ListN.{length, drop, length-append}
+use borrow.Author.Tests.{lt-ltb, le-ltb}
+use Rattle.machine.specs.File.{opening}
+use Rattle.machine.specs.Listing.{listingBy, listing}
+use Rattle.machine.specs.declared.Opening.{Opening}
+use Rattle.text.specs.Put.{put, Puts}
+use Rattle.listing.specs.declared.Listed.{Listed}
+use Rattle.listing.specs.declared.Listed.the-variants.{Text, ShortRoom}
+use Rattle.listing.specs.Listed.{Left, left, roomBy, roomFor, listed}
+use Rattle.listing.proofs.Opened.{events-few}
+
+-- a text put at the start of the room
+put-first : (room text : List ℕ) → put room 0 text ≡ text ++ drop (length text) room
+unfolding put
+put-first room text = rw (zero-add (length text))
+
+-- what is left where a file opens so
+abbrev leftBy : Opening → List ℕ → List ℕ → Left
+leftBy opens file room =
+    cond
+    (ltb (length room) (roomBy opens))
+    (left ShortRoom room)
+    (left (Text (length (listingBy opens file))) (listingBy opens file ++ drop (length (listingBy opens file)) room))
+
+module _ (file room : List ℕ) (opens : Opening) (is : opens ≡ opening file) where
+  so : leftBy opens file room ≡ listed file room
+  so = ap (λ (o : Opening). leftBy o file room) is
+
+  pub room-short : length room < roomBy opens → left ShortRoom room ≡ listed file room
+  room-short short =
+      let e : leftBy opens file room ≡ left ShortRoom room = rw (lt-ltb _ _ short) refl in
+      sym e ∙ so
+
+  pub text-listed : (to : ℕ) (after : List ℕ) → roomBy opens ≤ length room → Puts room 0 (listingBy opens file) to after → left (Text to) after ≡ listed file room
+  text-listed to after long puts =
+      let text = listingBy opens file in
+      let e : leftBy opens file room ≡ left (Text (length text)) (text ++ drop (length text) room) = rw (le-ltb _ _ long) refl in
+      let past : to ≡ length text = puts .past ∙ zero-add (length text) in
+      let room-after : after ≡ text ++ drop (length text) room = puts .room-after ∙ put-first room text in
+      rw (past, room-after) (sym e ∙ so)
+
+-- two outcomes that the contract of `list` admits are equal
+pub listed-determined : (file room : List ℕ) (answer answer′ : Listed) (after after′ : List ℕ)
+    → left answer after ≡ listed file room → left answer′ after′ ≡ listed file room → (answer ≡ answer′) × (after ≡ after′)
+listed-determined file room answer answer′ after after′ p q =
+    let e : left answer after ≡ left answer′ after′ = p ∙ sym q in
+    (ap (λ (l : Left). l .answer) e, ap (λ (l : Left). l .room) e)
+
+-- ---- what a caller of `list` learns
+
+within : (short : Bool) (room text after : List ℕ) (count : ℕ)
+    → left (Text count) after ≡ cond short (left ShortRoom room) (left (Text (length text)) (text ++ drop (length text) room)) → count ≤ length after
+within true room text after count e =
+    let answer : Text count ≡ ShortRoom = ap (λ (l : Left). l .answer) e in
+    let z : _≡_ {A = ℕ} 0 1 = cc in
+    omega arith
+within false room text after count e =
+    let answer : Text count ≡ Text (length text) = ap (λ (l : Left). l .answer) e in
+    let same : count ≡ length text = cc in
+    let whole : after ≡ text ++ drop (length text) room = ap (λ (l : Left). l .room) e in
+    rw whole (omega (arith, length-append text (drop (length text) room)))
+
+-- the text lies within the room
+pub text-within : (file room after : List ℕ) (count : ℕ) → left (Text count) after ≡ listed file room → count ≤ length after
+text-within file room after count is = within (ltb (length room) (roomFor file)) room (listing file) after count is
+
+-- 45 bytes and 31 for each of 16,384 events are room for any file
+pub room-always : (file : List ℕ) → roomFor file ≤ 507949
+room-always file = go (opening file) refl
+  where
+    go : (o : Opening) → opening file ≡ o → roomBy o ≤ 507949
+    go (Opening.Opened s count) is = let few = events-few file s count is in omega arith
+    go (Opening.Refused why) is = omega arith

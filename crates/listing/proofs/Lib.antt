@@ -1,0 +1,5 @@
+pub mod Counting
+pub mod Contract
+pub mod Opened
+pub mod Running
+pub mod Writing

@@ -1,0 +1,74 @@
+-- `advance` makes the event's call, puts its line, and counts as the definition does.
+use mathlib.Core.Path.{_≡_, refl, ap, _∙_}
+use Prim.Native.Nat.{max}
+use lib.ListN.{getD}
+use Rattle.machine.specs.Listing.{turnsAfter, completed}
+use denote.Ref.{now}
+use Rattle.listing.proofs.Running.{stands-advanced}
+use borrow.Author.Needs.{needs}
+use Rattle.listing.proofs.advance.Statement.{statement}
+use Rattle.listing.proofs.advance.Tie as tie
+
+make-requires : tie.Need-make-requires
+make-requires c κs = search needs
+
+turns-after-requires : tie.Need-turns-after-requires
+turns-after-requires c κs = search needs
+
+turns-of-requires : tie.Need-turns-of-requires
+turns-of-requires c κs = search needs
+
+completed-requires : tie.Need-completed-requires
+completed-requires c κs = search needs
+
+holders-requires : tie.Need-holders-requires
+holders-requires c κs = search needs
+
+larger-requires : tie.Need-larger-requires
+larger-requires c κs = search needs
+
+larger-requires-2 : tie.Need-larger-requires-2
+larger-requires-2 c κs = search needs
+
+put-event-requires : tie.Need-put-event-requires
+put-event-requires c κs = search needs
+
+same-length : tie.Need-same-length
+same-length c = search needs
+
+same-length-2 : tie.Need-same-length-2
+same-length-2 c = search needs
+
+same-length-3 : tie.Need-same-length-3
+same-length-3 c = search needs
+
+returns : tie.Need-returns
+returns c =
+    let c5 = c .before .before in
+    let c4 = c5 .before .before in
+    let c3 = c4 .before .before .before in
+    let c1 = c3 .before .before .before .before .before .before .before .before .before .before in
+    let a = c1 .before .before .before .before .before .before .before .args in
+    let turns = c3 .before .before .turns-after .ensures in
+    let used : c3 .completed .result ≡ completed (c1 .make .result .answer) (getD (turnsAfter (a .event) (c1 .make .result .answer) (a .at .turns)) (a .event .task .0) 0) =
+    c3 .completed .ensures ∙ rw (c3 .before .turns-of .ensures, turns) refl in
+    stands-advanced (a .s) (a .position) (a .event) (a .at) (now (a .xs)) (now (a .marks)) (now (a .room)) _ (c1 .make .result) _ _ _ (c1 .make .ensures) turns
+    (c4 .before .larger .ensures ∙ ap (max (a .at .peak)) (c4 .before .before .holders .ensures .0)) (c4 .larger2 .ensures ∙ ap (max (a .at .most)) used)
+    (c5 .put-event .ensures) refl
+
+pub advance-spec : {M : Type 1} → statement M
+advance-spec =
+    tie.close
+    (tie.spec
+    make-requires
+    turns-after-requires
+    turns-of-requires
+    completed-requires
+    holders-requires
+    larger-requires
+    larger-requires-2
+    put-event-requires
+    same-length
+    same-length-2
+    same-length-3
+    returns)

@@ -1,0 +1,121 @@
+-- `run` goes as the definition's progress: the code stands where it is after i events.
+use mathlib.Core.Path.{_≡_, refl, sym, _∙_}
+use mathlib.Core.List.{List}
+use Prim.Native.Nat.{ℕ, _+_, _*_, _-_, _≤_}
+use native.Mathlib.Omega.{arith}
+use borrow.Author.Needs.{needs}
+use lib.ListN.{length}
+use denote.Ref.{now}
+use Rattle.listing.proofs.Opened.{tasks-few, events-few}
+use Rattle.listing.proofs.Running.{Stands, begins, advances, ends, stands-room, stands-turns}
+use Rattle.listing.proofs.run.Statement.{statement}
+use Rattle.listing.proofs.run.Tie as tie
+
+abbrev Inv-loop : tie.InvT-loop
+Inv-loop file s count room₀ xs₀ marks₀ standing₀ i₀ room xs marks standing i =
+    (i ≤ count)
+    × (length room ≡ length room₀)
+    × (length xs ≡ length xs₀)
+    × (length marks ≡ length marks₀)
+    × ((first : List ℕ) → 45 + 31 * count ≤ length first → Stands s file 0 standing₀ xs₀ marks₀ first room₀ → Stands s file i standing xs marks first room)
+
+abbrev μ-loop : tie.MeasureT-loop
+μ-loop file s count room₀ xs₀ marks₀ standing₀ i₀ room xs marks standing i = count - i
+
+-- where the code stands at the loop's head
+here : (c : tie.At-loop Inv-loop μ-loop)
+    → Stands (c .before .before .before .before .before .before .before .before .before .before .before .before .before .before .before .args .s) (now (c .before .before .before .before .before .before .before .before .before .before .before .before .before .before .before .args .file)) (c .loop .i) (c .loop .standing) (c .loop .xs) (c .loop .marks) (now (c .before .before .before .before .before .before .before .before .before .before .before .before .before .before .before .args .room)) (c .loop .room)
+here c =
+    let a = c .before .before .before .before .before .before .before .before .before .before .before .before .before .before .before .args in
+    let pre = c .before .before .before .before .before .before .before .before .before .before .before .before .before .before .before .pre in
+    c .loop .inv .4 (now (a .room)) (pre .2) (begins (a .s) (now (a .file)) (now (a .xs)) (now (a .marks)) (now (a .room)) _ _ _ _ (pre .1) (c .before .before .before .before .before .before .before .begin .ensures))
+
+begin-requires : tie.Need-begin-requires Inv-loop μ-loop
+begin-requires c κs = search needs
+
+loop-holds : tie.Need-loop-holds Inv-loop μ-loop
+loop-holds c = (search needs, refl, refl, refl, λ first fits begun. begun)
+
+cast-event-of : tie.Need-cast-event-of Inv-loop μ-loop
+cast-event-of c = search needs
+
+event-of-requires : tie.Need-event-of-requires Inv-loop μ-loop
+event-of-requires c κs = (c .before .before .before .before .before .before .before .before .before .before .before .before .before .before .before .before .pre .0, search needs)
+
+advance-requires : tie.Need-advance-requires Inv-loop μ-loop
+advance-requires c κs =
+    let start = c .before .before .before .before .before .before .before .before .before .before .before .before .before .before .before .before .before .before .before .before in
+    let a = start .args in
+    let l = c .before .before .before .before .before .loop in
+    let stands = here (c .before .before .before .before .before) in
+    let few = events-few (now (a .file)) (a .s) (a .count) (start .pre .0) in
+    let room = stands-room stands 31 (search needs) in
+    (tasks-few (now (a .file)) (a .s) (a .count) (start .pre .0), λ p. stands-turns stands p (omega arith), room)
+
+add-i : tie.Need-add-i Inv-loop μ-loop
+add-i c = omega (arith, c .before .before .before .before .before .before .before .before .before .before .before .before .before .before .before .before .before .before .before .before .before .before .before .before .before .before .before .fits .count)
+
+loop-less : tie.Need-loop-less Inv-loop μ-loop
+loop-less c = search needs
+
+loop-again : tie.Need-loop-again Inv-loop μ-loop
+loop-again c =
+    let step = c .before .before .before .before .before .before in
+    let at = c .before .before .before .before .before .before .before .before .before .before .before .before in
+    let a = c .before .before .before .before .before .before .before .before .before .before .before .before .before .before .before .before .before .before .before .before .before .before .before .before .before .before .before .args in
+    let kept = step .advance .kept in
+    let event = step .before .before .before .before .event-of .ensures in (
+      search needs,
+      kept .1 .1 .1 .1 .0 ∙ at .loop .inv .1,
+      kept .1 .1 .1 .1 .1 .0 ∙ at .loop .inv .2,
+      kept .1 .1 .1 .1 .1 .1 .0 ∙ at .loop .inv .3,
+      λ first fits begun. advances (a .s) (now (a .file)) (at .loop .i) _ _ _ first _ _ _ _ _ (omega arith) (at .loop .inv .4 first fits begun) (rw event at (step .advance .ensures)),
+    )
+
+holders-requires : tie.Need-holders-requires Inv-loop μ-loop
+holders-requires c κs =
+    let start = c .before .before .before .before .before .before .before .before .before .before .before .before .before .before .before .before .before in
+    let a = start .args in
+    tasks-few (now (a .file)) (a .s) (a .count) (start .pre .0)
+
+put-end-requires : tie.Need-put-end-requires Inv-loop μ-loop
+put-end-requires c κs =
+    let stands = here (c .before .before .before .before) in
+    stands-room stands 22 (search needs)
+
+same-length : tie.Need-same-length Inv-loop μ-loop
+same-length c = search needs
+
+same-length-2 : tie.Need-same-length-2 Inv-loop μ-loop
+same-length-2 c = search needs
+
+same-length-3 : tie.Need-same-length-3 Inv-loop μ-loop
+same-length-3 c = search needs
+
+returns : tie.Need-returns Inv-loop μ-loop
+returns c =
+    let at = c .before .before .before .before .before .before .before in
+    let a = c .before .before .before .before .before .before .before .before .before .before .before .before .before .before .before .before .before .before .before .before .before .before .args in
+    let all : at .loop .i ≡ a .count = omega arith in
+    rw (sym all) (ends (a .s) (now (a .file)) (at .loop .i) (at .loop .standing) (at .loop .xs) (at .loop .marks) (now (a .room)) (at .loop .room) _ _ _ (omega (arith, c .before .before .before .before .before .before .before .before .before .before .before .before .before .before .before .before .before .before .before .before .before .before .pre .2)) (here at) (c .before .before .before .before .holders .ensures .0) (c .before .before .put-end .ensures))
+
+pub run-spec : {M : Type 1} → statement M
+run-spec =
+    tie.close
+    (tie.spec
+    Inv-loop
+    μ-loop
+    begin-requires
+    loop-holds
+    cast-event-of
+    event-of-requires
+    advance-requires
+    add-i
+    loop-less
+    loop-again
+    holders-requires
+    put-end-requires
+    same-length
+    same-length-2
+    same-length-3
+    returns)

@@ -1,0 +1,428 @@
+// The listing of a schedule file: from the file's bytes to the bytes that `gridlist` prints of it,
+// in lent room.
+
+use calls::Call;
+use calls::make;
+use machine::Answer;
+use machine::Event;
+use machine::Kind;
+use machine::Opening;
+use machine::Reading;
+use machine::Record;
+use machine::Refusal;
+use machine::Settings;
+use machine::State;
+use machine::TaskId;
+use text::copy;
+use text::number;
+ghost use mathlib.Core.Path.{_≡_};
+ghost use mathlib.Core.List.{_++_};
+ghost use Prim.Native.Nat.{ℕ, _+_, _*_, _≤_, _<_, max};
+ghost use lib.ListN.{length, getD, replicate};
+ghost use Rattle.machine.specs.Records.{idle};
+ghost use Rattle.machine.specs.Memory.{tick, holdersOf};
+ghost use Rattle.machine.specs.Answers.{numberOf, isAccepted};
+ghost use Rattle.machine.specs.History.{counted};
+ghost use Rattle.machine.specs.File.{eventAt, opening};
+ghost use Rattle.machine.specs.Listing.{decimal, lineFeed, kindText, answerText, gridLine, eventLine, endLine, turnsAfter, completed, refusedLine, largest, progress, ended};
+ghost use Rattle.machine.specs.Lent.{lent};
+ghost use Rattle.text.specs.Put.{Puts};
+ghost use Rattle.listing.specs.Writes.{Writes};
+ghost use Rattle.listing.specs.Standing.{Begun, Advanced};
+ghost use Rattle.listing.specs.Listed.{left, listed};
+
+// What listing a file answers: how many bytes the text has, or that the room is too short for it.
+pub enum Listed {
+    Text(usize),
+    ShortRoom,
+}
+
+// Where a run stands: the records, each task's accepted turns since its accepted ask, PEAK and MOST
+// so far, and the index past the lines printed.
+struct Standing {
+    records: [Record; 256],
+    turns: [u16; 256],
+    peak: u16,
+    most: u16,
+    at: usize,
+}
+
+// ---- pieces of a line
+
+// A number in decimal, which has at most five digits.
+fn decimal(room: &mut [u8], at: usize, n: u16) -> usize
+    requires { ⌜ at + 5 ≤ length (now room) ⌝ }
+    ensures { λ to. ⌜ Writes 5 (now (room .entry)) at (decimal n) to (now (room .exit)) ⌝ }
+{
+    number(room, at, n)
+}
+
+// The end of a line.
+fn line_feed(room: &mut [u8], at: usize) -> usize
+    requires { ⌜ at + 1 ≤ length (now room) ⌝ }
+    ensures { λ to. ⌜ Writes 1 (now (room .entry)) at lineFeed to (now (room .exit)) ⌝ }
+{
+    copy(room, at, b"\n")
+}
+
+// A text and a number after it.
+fn labelled(room: &mut [u8], at: usize, label: &[u8], n: u16) -> usize
+    requires { ⌜ at + (length (now label) + 5) ≤ length (now room) ⌝ }
+    ensures { λ to. ⌜ Writes (length (now (label .entry)) + 5) (now (room .entry)) at (now (label .entry) ++ decimal n) to (now (room .exit)) ⌝ }
+{
+    let next = copy(room, at, label);
+    decimal(room, next, n)
+}
+
+// The number of a refusal.
+fn number_of(why: Refusal) -> u16
+    ensures { λ n. ⌜ n ≡ numberOf why ⌝ }
+{
+    match why {
+        Refusal::Limits => 1,
+        Refusal::ShortRow => 2,
+        Refusal::OutOfRange { row: _, index: _ } => 3,
+        Refusal::NoSuchTask => 4,
+        Refusal::OneTime => 5,
+        Refusal::WrongMoment => 6,
+        Refusal::TooManyOut => 7,
+        Refusal::FileLength => 8,
+        Refusal::Letters => 9,
+        Refusal::Version => 10,
+        Refusal::TooManyEvents => 11,
+        Refusal::EventCode => 12,
+        Refusal::NoEvent => 13,
+        Refusal::ShortRoom => 14,
+    }
+}
+
+// KIND: ask, turn or free.
+fn put_kind(room: &mut [u8], at: usize, kind: Kind) -> usize
+    requires { ⌜ at + 5 ≤ length (now room) ⌝ }
+    ensures { λ to. ⌜ Writes 5 (now (room .entry)) at (kindText kind) to (now (room .exit)) ⌝ }
+{
+    match kind {
+        Kind::Ask => copy(room, at, b"ask "),
+        Kind::Turn => copy(room, at, b"turn "),
+        Kind::Release => copy(room, at, b"free "),
+    }
+}
+
+// ANSWER: seeks, holds NAME, freed NAME or refused NUMBER.
+fn put_answer(room: &mut [u8], at: usize, answer: Answer) -> usize
+    requires { ⌜ at + 13 ≤ length (now room) ⌝ }
+    ensures { λ to. ⌜ Writes 13 (now (room .entry)) at (answerText answer) to (now (room .exit)) ⌝ }
+{
+    match answer {
+        Answer::Done => copy(room, at, b"done"),
+        Answer::Seeks => copy(room, at, b"seeks"),
+        Answer::Holds(name) => labelled(room, at, b"holds ", name.0),
+        Answer::Freed(name) => labelled(room, at, b"freed ", name.0),
+        Answer::Refused(why) => labelled(room, at, b"refused ", number_of(why)),
+    }
+}
+
+// ---- lines
+
+// The line `grid MODE N K`.
+fn put_grid(room: &mut [u8], s: Settings) -> usize
+    requires { ⌜ 23 ≤ length (now room) ⌝ }
+    ensures { λ to. ⌜ Writes 23 (now (room .entry)) 0 (gridLine s) to (now (room .exit)) ⌝ }
+{
+    let at = labelled(room, 0, b"grid ", s.mode as u16);
+    let at = labelled(room, at, b" ", s.n);
+    let at = labelled(room, at, b" ", s.k as u16);
+    line_feed(room, at)
+}
+
+// The line `POSITION KIND ID ANSWER`.
+fn put_event(room: &mut [u8], at: usize, position: u16, event: Event, answer: Answer) -> usize
+    requires { ⌜ at + 31 ≤ length (now room) ⌝ }
+    ensures { λ to. ⌜ Writes 31 (now (room .entry)) at (eventLine position event answer) to (now (room .exit)) ⌝ }
+{
+    let kind = event.kind;
+    let task = event.task;
+    let at = decimal(room, at, position);
+    let at = copy(room, at, b" ");
+    let at = put_kind(room, at, kind);
+    let at = decimal(room, at, task.0);
+    let at = copy(room, at, b" ");
+    let at = put_answer(room, at, answer);
+    line_feed(room, at)
+}
+
+// The line `end HOLDERS PEAK MOST`.
+fn put_end(room: &mut [u8], at: usize, holders: u16, peak: u16, most: u16) -> usize
+    requires { ⌜ at + 22 ≤ length (now room) ⌝ }
+    ensures { λ to. ⌜ Writes 22 (now (room .entry)) at (endLine holders peak most) to (now (room .exit)) ⌝ }
+{
+    let at = labelled(room, at, b"end ", holders);
+    let at = labelled(room, at, b" ", peak);
+    let at = labelled(room, at, b" ", most);
+    line_feed(room, at)
+}
+
+// ---- what is counted
+
+// One more where it is so.
+fn ticked(yes: bool, n: u16) -> u16
+    requires { ⌜ n < 65535 ⌝ }
+    ensures { λ more. ⌜ more ≡ tick yes n ⌝ }
+{
+    if yes {
+        return n + 1;
+    }
+    n
+}
+
+// How many of the N tasks hold.
+fn holders(s: Settings, records: [Record; 256]) -> u16
+    requires { ⌜ s .n ≤ 256 ⌝ }
+    ensures { λ n. ⌜ (n ≡ holdersOf s records) × (n ≤ 256) ⌝ }
+{
+    let count = s.n as usize;
+    let mut n = 0;
+    let mut i = 0;
+    while i < count {
+        let own = records[i];
+        n = ticked(records::is_holding(own), n);
+        i += 1;
+    }
+    n
+}
+
+// The larger of two numbers.
+fn larger(a: u16, b: u16) -> u16
+    ensures { λ n. ⌜ n ≡ max a b ⌝ }
+{
+    if a < b {
+        return b;
+    }
+    a
+}
+
+// Whether a call was accepted.
+fn accepted(answer: Answer) -> bool
+    ensures { λ yes. ⌜ yes ≡ isAccepted answer ⌝ }
+{
+    match answer {
+        Answer::Done => true,
+        Answer::Seeks => true,
+        Answer::Holds(_) => true,
+        Answer::Freed(_) => true,
+        Answer::Refused(_) => false,
+    }
+}
+
+// A count of turns after one more accepted call of the task: an ask begins anew, a turn adds one.
+fn counted(kind: Kind, turns: u16) -> u16
+    requires { ⌜ turns < 65535 ⌝ }
+    ensures { λ after. ⌜ after ≡ counted kind turns ⌝ }
+{
+    match kind {
+        Kind::Ask => 0,
+        Kind::Turn => turns + 1,
+        Kind::Release => turns,
+    }
+}
+
+// The counts of turns after one more call.
+fn turns_after(turns: [u16; 256], event: Event, answer: Answer) -> [u16; 256]
+    requires { ⌜ ((p : ℕ) → getD turns p 0 < 65535) ⌝ }
+    ensures { λ after. ⌜ after ≡ turnsAfter event answer turns ⌝ }
+{
+    if !accepted(answer) {
+        return turns;
+    }
+    let kind = event.kind;
+    let task = event.task;
+    let i = task.0 as usize;
+    if i >= 256 {
+        return turns;
+    }
+    let mut after = turns;
+    after[i] = counted(kind, turns[i]);
+    after
+}
+
+// The count of one task; 0 where there is none.
+fn turns_of(turns: [u16; 256], task: TaskId) -> u16
+    ensures { λ n. ⌜ n ≡ getD turns (task .0) 0 ⌝ }
+{
+    let i = task.0 as usize;
+    if i >= 256 {
+        return 0;
+    }
+    turns[i]
+}
+
+// The turns that a completed acquisition used; 0 where the call completes none.
+fn completed(answer: Answer, turns: u16) -> u16
+    ensures { λ n. ⌜ n ≡ completed answer turns ⌝ }
+{
+    match answer {
+        Answer::Done => 0,
+        Answer::Seeks => 0,
+        Answer::Holds(_) => turns,
+        Answer::Freed(_) => 0,
+        Answer::Refused(_) => 0,
+    }
+}
+
+// ---- the run
+
+// The records of the largest settings, all idle.
+fn idle_records() -> [Record; 256]
+    ensures { λ records. ⌜ records ≡ replicate 256 idle ⌝ }
+{
+    [Record { state: State::Idle }; 256]
+}
+
+// Nobody has taken a turn.
+fn no_turns() -> [u16; 256]
+    ensures { λ turns. ⌜ turns ≡ replicate 256 0 ⌝ }
+{
+    [0u16; 256]
+}
+
+// As many X numbers as the largest settings need, all 0.
+fn no_xs() -> [u32; 120]
+    ensures { λ xs. ⌜ xs ≡ replicate 120 0 ⌝ }
+{
+    [0u32; 120]
+}
+
+// As many marks as the largest settings need, all 0.
+fn no_marks() -> [u8; 30720]
+    ensures { λ marks. ⌜ marks ≡ replicate 30720 0 ⌝ }
+{
+    [0u8; 30720]
+}
+
+// Setup on fresh memory, and the line that says the settings.
+fn begin(s: Settings, room: &mut [u8], xs: &mut [u32], marks: &mut [u8]) -> Standing
+    requires { ⌜ 23 ≤ length (now room) ⌝ }
+    ensures { λ to. ⌜ Begun s (now (xs .entry)) (now (marks .entry)) (now (room .entry)) to (now (xs .exit)) (now (marks .exit)) (now (room .exit)) ⌝ }
+{
+    let made = make(s, Call::Setup, idle_records(), xs, marks);
+    let at = put_grid(room, s);
+    let records = made.records;
+    Standing {
+        records: records,
+        turns: no_turns(),
+        peak: 0,
+        most: 0,
+        at: at,
+    }
+}
+
+// The event at a position of an opened file.
+fn event_of(file: &[u8], s: Settings, count: u16, i: usize) -> Event
+    requires { ⌜ (opening (now file) ≡ Opening.Opened s count) × (i < count) ⌝ }
+    ensures { λ event. ⌜ event ≡ eventAt (now (file .entry)) i ⌝ }
+{
+    let next = schedule::read(file, i);
+    let answer = next.answer;
+    match answer {
+        Reading::Given(event) => event,
+        Reading::Refused(_) => Event {
+            kind: Kind::Ask,
+            task: TaskId(0),
+        },
+    }
+}
+
+// One event more: the call, its line, and the counts after it.
+fn advance(
+    s: Settings,
+    position: u16,
+    event: Event,
+    at: Standing,
+    room: &mut [u8],
+    xs: &mut [u32],
+    marks: &mut [u8],
+) -> Standing
+    requires { ⌜ (s .n ≤ 256) × ((p : ℕ) → getD (at .turns) p 0 < 65535) × (at .at + 31 ≤ length (now room)) ⌝ }
+    ensures { λ to. ⌜ Advanced s position event at (now (xs .entry)) (now (marks .entry)) (now (room .entry)) to (now (xs .exit)) (now (marks .exit)) (now (room .exit)) ⌝ }
+{
+    let before = at.records;
+    let made = make(s, Call::Of(event), before, xs, marks);
+    let answer = made.answer;
+    let records = made.records;
+    let counts = at.turns;
+    let task = event.task;
+    let turns = turns_after(counts, event, answer);
+    let used = completed(answer, turns_of(turns, task));
+    Standing {
+        records: records,
+        turns: turns,
+        peak: larger(at.peak, holders(s, records)),
+        most: larger(at.most, used),
+        at: put_event(room, at.at, position, event, answer),
+    }
+}
+
+// The lines of an opened file, on fresh memory that is lent.
+fn run(
+    file: &[u8],
+    s: Settings,
+    count: u16,
+    room: &mut [u8],
+    xs: &mut [u32],
+    marks: &mut [u8],
+) -> usize
+    requires { ⌜ (opening (now file) ≡ Opening.Opened s count) × (lent (replicate 256 idle) (now xs) (now marks) ≡ largest) × (45 + 31 * count ≤ length (now room)) ⌝ }
+    ensures { λ to. ⌜ Puts (now (room .entry)) 0 (ended s (progress s (now (file .entry)) count)) to (now (room .exit)) ⌝ }
+{
+    let mut standing = begin(s, room, xs, marks);
+    let mut i = 0u16;
+    while i < count {
+        let event = event_of(file, s, count, i as usize);
+        standing = advance(s, i, event, standing, room, xs, marks);
+        i += 1;
+    }
+    let records = standing.records;
+    let held = holders(s, records);
+    put_end(room, standing.at, held, standing.peak, standing.most)
+}
+
+// The line of a file that does not open.
+fn put_refused(room: &mut [u8], why: Refusal) -> usize
+    requires { ⌜ 14 ≤ length (now room) ⌝ }
+    ensures { λ to. ⌜ Puts (now (room .entry)) 0 (refusedLine (numberOf why)) to (now (room .exit)) ⌝ }
+{
+    let at = labelled(room, 0, b"refused ", number_of(why));
+    line_feed(room, at)
+}
+
+// The lines of an opened file.
+fn put_lines(file: &[u8], s: Settings, count: u16, room: &mut [u8]) -> usize
+    requires { ⌜ (opening (now file) ≡ Opening.Opened s count) × (45 + 31 * count ≤ length (now room)) ⌝ }
+    ensures { λ to. ⌜ Puts (now (room .entry)) 0 (ended s (progress s (now (file .entry)) count)) to (now (room .exit)) ⌝ }
+{
+    let mut xs = no_xs();
+    let mut marks = no_marks();
+    run(file, s, count, room, &mut xs, &mut marks)
+}
+
+// Lists a schedule file: the text from the start of the room, and how long it is. Where the room is
+// shorter than the file's longest listing it answers that, and leaves the room as it was.
+pub fn list(file: &[u8], room: &mut [u8]) -> Listed
+    ensures { λ answer. ⌜ left answer (now (room .exit)) ≡ listed (now (file .entry)) (now (room .entry)) ⌝ }
+{
+    let opening = schedule::open(file);
+    match opening {
+        Opening::Refused(why) => {
+            if room.len() < 14 {
+                return Listed::ShortRoom;
+            }
+            Listed::Text(put_refused(room, why))
+        }
+        Opening::Opened { settings, count } => {
+            if room.len() < 45 + 31 * (count as usize) {
+                return Listed::ShortRoom;
+            }
+            Listed::Text(put_lines(file, settings, count, room))
+        }
+    }
+}
