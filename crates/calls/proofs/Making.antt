@@ -24,4 +24,5 @@ module _ (s : Settings) (called : Call) (m : Memory) (answer : Answer) (records 
   unfolding outcomeOf
   event-made event kind is its left =
       let same : event ≡ eventOf kind (event .task .0) = ap (λ (k : Kind). record { kind = k; task = event .task }) its in
-      rw (is, same) left
+      let called-so : Leaves (call s event m) answer records xs marks = rw same left in
+      rw is called-so
