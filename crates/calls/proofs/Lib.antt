@@ -2,3 +2,4 @@
 pub mod ByDecision
 pub mod Functions
 pub mod Making
+mod Stepping

@@ -1,14 +1,12 @@
--- A call by its enum is the call of the event's kind and task.
-use mathlib.Core.Path.{_≡_, ap}
+-- A call by its enum is setup, or the call of its event.
+use mathlib.Core.Path.{_≡_}
 use mathlib.Core.List.{List}
 use Prim.Native.Nat.{ℕ}
 use Rattle.machine.specs.Memory.{Memory}
 use Rattle.machine.specs.Calls.{setup, call}
-use Rattle.machine.specs.Worst.{eventOf}
 use Rattle.machine.specs.Lent.{Leaves}
 use Rattle.machine.specs.declared.Settings.{Settings}
 use Rattle.machine.specs.declared.Record.{Record}
-use Rattle.machine.specs.declared.Kind.{Kind}
 use Rattle.machine.specs.declared.Event.{Event}
 use Rattle.machine.specs.declared.Answer.{Answer}
 use Rattle.calls.specs.Made.{outcomeOf}
@@ -19,10 +17,6 @@ module _ (s : Settings) (called : Call) (m : Memory) (answer : Answer) (records 
   unfolding outcomeOf
   setup-made is left = rw is left
 
-  pub event-made : (event : Event) (kind : Kind) → called ≡ Call.Of event → event .kind ≡ kind
-      → Leaves (call s (eventOf kind (event .task .0)) m) answer records xs marks → Leaves (outcomeOf s called m) answer records xs marks
+  pub event-made : (event : Event) → called ≡ Call.Of event → Leaves (call s event m) answer records xs marks → Leaves (outcomeOf s called m) answer records xs marks
   unfolding outcomeOf
-  event-made event kind is its left =
-      let same : event ≡ eventOf kind (event .task .0) = ap (λ (k : Kind). record { kind = k; task = event .task }) its in
-      let called-so : Leaves (call s event m) answer records xs marks = rw same left in
-      rw is called-so
+  event-made event is left = rw is left

@@ -1,6 +1,6 @@
-// The four calls of the grid on lent rows: setup, ask, turn and release. Each looks at the records,
-// decides by `rules`, and puts back what was decided. They take any settings, any identifier, and
-// rows of any length and contents.
+// The four calls of the grid on lent rows: setup, ask, turn and release, the last three also by an
+// event. A call looks at the records, decides by `rules`, and puts back what was decided. It takes
+// any settings, any identifier, and rows of any length and contents.
 
 use machine::Answer;
 use machine::Event;
@@ -35,6 +35,23 @@ pub fn setup(s: Settings, records: &mut [Record], xs: &mut [u32], marks: &mut [u
     prepared.answer
 }
 
+// A call of one task, by its event: ask, turn or release.
+pub fn step(
+    s: Settings,
+    records: &mut [Record],
+    xs: &mut [u32],
+    marks: &mut [u8],
+    event: Event,
+) -> Answer
+    ensures { λ answer. ⌜ Leaves (call s event (lent (now (records .entry)) (now (xs .entry)) (now (marks .entry)))) answer (now (records .exit)) (now (xs .exit)) (now (marks .exit)) ⌝ }
+{
+    let task = event.task;
+    let seen = rows::look(s, records, task);
+    let decided = rules::decide(s, seen, xs, marks, event);
+    rows::put(records, task.0 as usize, decided.own);
+    decided.answer
+}
+
 // Ask, for an idle task: it seeks at (0, 0), or holds it where k is 1.
 pub fn ask(
     s: Settings,
@@ -45,10 +62,11 @@ pub fn ask(
 ) -> Answer
     ensures { λ answer. ⌜ Leaves (call s (ask (task .0)) (lent (now (records .entry)) (now (xs .entry)) (now (marks .entry)))) answer (now (records .exit)) (now (xs .exit)) (now (marks .exit)) ⌝ }
 {
-    let seen = rows::look(s, records, task);
-    let decided = rules::ask(s, seen, xs, marks, task);
-    rows::put(records, task.0 as usize, decided.own);
-    decided.answer
+    let event = Event {
+        kind: Kind::Ask,
+        task: task,
+    };
+    step(s, records, xs, marks, event)
 }
 
 // Turn, for a seeking task: exactly one access.
@@ -61,10 +79,11 @@ pub fn turn(
 ) -> Answer
     ensures { λ answer. ⌜ Leaves (call s (turn (task .0)) (lent (now (records .entry)) (now (xs .entry)) (now (marks .entry)))) answer (now (records .exit)) (now (xs .exit)) (now (marks .exit)) ⌝ }
 {
-    let seen = rows::look(s, records, task);
-    let decided = rules::turn(s, seen, xs, marks, task);
-    rows::put(records, task.0 as usize, decided.own);
-    decided.answer
+    let event = Event {
+        kind: Kind::Turn,
+        task: task,
+    };
+    step(s, records, xs, marks, event)
 }
 
 // Release, for a holding task of a long-lived grid: its name is free again.
@@ -77,10 +96,11 @@ pub fn release(
 ) -> Answer
     ensures { λ answer. ⌜ Leaves (call s (release (task .0)) (lent (now (records .entry)) (now (xs .entry)) (now (marks .entry)))) answer (now (records .exit)) (now (xs .exit)) (now (marks .exit)) ⌝ }
 {
-    let seen = rows::look(s, records, task);
-    let decided = rules::release(s, seen, xs, marks, task);
-    rows::put(records, task.0 as usize, decided.own);
-    decided.answer
+    let event = Event {
+        kind: Kind::Release,
+        task: task,
+    };
+    step(s, records, xs, marks, event)
 }
 
 // Setup of records that are handed over and come back.
@@ -95,54 +115,18 @@ fn setup_of(s: Settings, records: [Record; 256], xs: &mut [u32], marks: &mut [u8
     }
 }
 
-// An ask on records that are handed over and come back.
-fn ask_of(
+// A call of one task on records that are handed over and come back.
+fn step_of(
     s: Settings,
     records: [Record; 256],
     xs: &mut [u32],
     marks: &mut [u8],
-    task: TaskId,
+    event: Event,
 ) -> Made
-    ensures { λ made. ⌜ Leaves (call s (ask (task .0)) (lent records (now (xs .entry)) (now (marks .entry)))) (made .answer) (made .records) (now (xs .exit)) (now (marks .exit)) ⌝ }
+    ensures { λ made. ⌜ Leaves (call s event (lent records (now (xs .entry)) (now (marks .entry)))) (made .answer) (made .records) (now (xs .exit)) (now (marks .exit)) ⌝ }
 {
     let mut mine = records;
-    let answer = ask(s, &mut mine, xs, marks, task);
-    Made {
-        records: mine,
-        answer: answer,
-    }
-}
-
-// A turn on records that are handed over and come back.
-fn turn_of(
-    s: Settings,
-    records: [Record; 256],
-    xs: &mut [u32],
-    marks: &mut [u8],
-    task: TaskId,
-) -> Made
-    ensures { λ made. ⌜ Leaves (call s (turn (task .0)) (lent records (now (xs .entry)) (now (marks .entry)))) (made .answer) (made .records) (now (xs .exit)) (now (marks .exit)) ⌝ }
-{
-    let mut mine = records;
-    let answer = turn(s, &mut mine, xs, marks, task);
-    Made {
-        records: mine,
-        answer: answer,
-    }
-}
-
-// A release on records that are handed over and come back.
-fn release_of(
-    s: Settings,
-    records: [Record; 256],
-    xs: &mut [u32],
-    marks: &mut [u8],
-    task: TaskId,
-) -> Made
-    ensures { λ made. ⌜ Leaves (call s (release (task .0)) (lent records (now (xs .entry)) (now (marks .entry)))) (made .answer) (made .records) (now (xs .exit)) (now (marks .exit)) ⌝ }
-{
-    let mut mine = records;
-    let answer = release(s, &mut mine, xs, marks, task);
+    let answer = step(s, &mut mine, xs, marks, event);
     Made {
         records: mine,
         answer: answer,
@@ -162,14 +146,6 @@ pub fn make(
 {
     match call {
         Call::Setup => setup_of(s, records, xs, marks),
-        Call::Of(event) => {
-            let kind = event.kind;
-            let task = event.task;
-            match kind {
-                Kind::Ask => ask_of(s, records, xs, marks, task),
-                Kind::Turn => turn_of(s, records, xs, marks, task),
-                Kind::Release => release_of(s, records, xs, marks, task),
-            }
-        }
+        Call::Of(event) => step_of(s, records, xs, marks, event),
     }
 }

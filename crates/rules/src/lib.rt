@@ -3,6 +3,7 @@
 
 use machine::Access;
 use machine::Answer;
+use machine::Event;
 use machine::Kind;
 use machine::Record;
 use machine::Refusal;
@@ -314,7 +315,7 @@ pub fn setup(s: Settings, seen: View, xs: &mut [u32], marks: &mut [u8]) -> Prepa
 }
 
 // Ask: the task comes to (0, 0), and no register is touched; a refusal changes nothing.
-pub fn ask(s: Settings, seen: View, xs: &mut [u32], marks: &mut [u8], task: TaskId) -> Decided
+fn ask(s: Settings, seen: View, xs: &mut [u32], marks: &mut [u8], task: TaskId) -> Decided
     ensures { λ d. ⌜ decided d (now (xs .exit)) (now (marks .exit)) ≡ decision s Kind.Ask (task .0) seen (now (xs .entry)) (now (marks .entry)) ⌝ }
 {
     let own = seen.own;
@@ -334,7 +335,7 @@ pub fn ask(s: Settings, seen: View, xs: &mut [u32], marks: &mut [u8], task: Task
 }
 
 // Turn: the one access, and the next record from the value read; a refusal changes nothing.
-pub fn turn(s: Settings, seen: View, xs: &mut [u32], marks: &mut [u8], task: TaskId) -> Decided
+fn turn(s: Settings, seen: View, xs: &mut [u32], marks: &mut [u8], task: TaskId) -> Decided
     requires { ⌜ Sees s (task .0) seen ⌝ }
     ensures { λ d. ⌜ decided d (now (xs .exit)) (now (marks .exit)) ≡ decision s Kind.Turn (task .0) seen (now (xs .entry)) (now (marks .entry)) ⌝ }
 {
@@ -357,7 +358,7 @@ pub fn turn(s: Settings, seen: View, xs: &mut [u32], marks: &mut [u8], task: Tas
 }
 
 // Release: the own mark of a block is cleared, and the task is idle; a refusal changes nothing.
-pub fn release(s: Settings, seen: View, xs: &mut [u32], marks: &mut [u8], task: TaskId) -> Decided
+fn release(s: Settings, seen: View, xs: &mut [u32], marks: &mut [u8], task: TaskId) -> Decided
     requires { ⌜ Sees s (task .0) seen ⌝ }
     ensures { λ d. ⌜ decided d (now (xs .exit)) (now (marks .exit)) ≡ decision s Kind.Release (task .0) seen (now (xs .entry)) (now (marks .entry)) ⌝ }
 {
@@ -376,5 +377,19 @@ pub fn release(s: Settings, seen: View, xs: &mut [u32], marks: &mut [u8], task: 
                 own: idle,
             }
         }
+    }
+}
+
+// Ask, turn or release, by the event's kind.
+pub fn decide(s: Settings, seen: View, xs: &mut [u32], marks: &mut [u8], event: Event) -> Decided
+    requires { ⌜ Sees s (event .task .0) seen ⌝ }
+    ensures { λ d. ⌜ decided d (now (xs .exit)) (now (marks .exit)) ≡ decision s (event .kind) (event .task .0) seen (now (xs .entry)) (now (marks .entry)) ⌝ }
+{
+    let kind = event.kind;
+    let task = event.task;
+    match kind {
+        Kind::Ask => ask(s, seen, xs, marks, task),
+        Kind::Turn => turn(s, seen, xs, marks, task),
+        Kind::Release => release(s, seen, xs, marks, task),
     }
 }
