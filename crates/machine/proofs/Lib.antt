@@ -52,3 +52,6 @@ pub mod Laps
 pub mod WorstRun
 pub mod Exact
 pub mod Demand3
+-- the last line of a listing
+pub mod Greatest
+pub mod EndLine

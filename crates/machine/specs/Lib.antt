@@ -14,6 +14,7 @@ pub mod Lent
 -- What is promised of them.
 pub mod Worst
 pub mod Demands
+pub mod EndLine
 pub mod Edges
 pub mod Refusing
 pub mod Rules

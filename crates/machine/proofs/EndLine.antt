@@ -1,0 +1,239 @@
+-- The listing's numbers are the history's own counts: the memory that a run stands at is that of the history, its list of turns has each task's
+-- turns since its last accepted ask, and each maximum that it keeps is the greatest of the positions so far.
+use mathlib.Core.Path.{_≡_, refl, sym, ap, _∙_}
+use mathlib.Core.Bool.{Bool, true, false, not, cond, _&&_, _||_}
+use mathlib.Core.List.{List, [], _∷_, _++_}
+use Prim.Native.Nat.{ℕ, zero, suc, _≤_, _<_, max}
+use native.Mathlib.Nat.{le-refl, max-zero}
+use native.Mathlib.Omega.{arith}
+use lib.Dec.{T, eqb, ltb, eqb→eq}
+use lib.ListN.{length, getD, set, length-set, length-replicate, getD-replicate}
+use lib.Seq.{getD-set-same, getD-set-other}
+use borrow.Author.Tests.{eqb-true, eqb-false, lt-ltb, le-ltb}
+use Rattle.machine.specs.Records.{isHolding}
+use Rattle.machine.specs.Memory.{Memory, stateOf, tick, count, holdersOf}
+use Rattle.machine.specs.Answers.{isAccepted}
+use Rattle.machine.specs.Calls.{call, setup}
+use Rattle.machine.specs.History.{Answered, counted, turnsOf}
+use Rattle.machine.specs.File.{codeAt, taskAt, eventAt, anyBelow}
+use Rattle.machine.specs.Listing.{largest, Progress, turnsAfter, completed, progress, listingBy}
+use Rattle.machine.specs.Demands.{memoryAfter, historyOf, used}
+use Rattle.machine.specs.EndLine.{eventsOf, memoryAt, holdersAt, answerAt, Completes, takenAt, turnsSince, turnsAt, linesOf, Greatest}
+use Rattle.machine.specs.EndLine.{EndLineCounted, EndCountsOne, UsedCounted}
+use Rattle.machine.specs.declared.Settings.{Settings}
+use Rattle.machine.specs.declared.Kind.the-variants.{Ask, Turn, Release}
+use Rattle.machine.specs.declared.Event.{Event}
+use Rattle.machine.specs.declared.Answer.{Answer}
+use Rattle.machine.specs.declared.Opening.{Opening}
+use Rattle.machine.proofs.Limits.{limits}
+use Rattle.machine.proofs.Searching.{count-same, count-none}
+use Rattle.machine.proofs.Passing.{passed}
+use Rattle.machine.proofs.Histories.{run-append, history-append}
+use Rattle.machine.proofs.Served.{turns-append}
+use Rattle.machine.proofs.Greatest.{none-yet, one-skipped, one-counted, greatest-one}
+
+-- ---- counted since
+
+-- the positions with a turn and no later ask, one position more: an ask ends the count, a turn adds one
+module _ (asked turned : ℕ → Bool) where
+  abbrev later : ℕ → ℕ → Bool
+  later n i = anyBelow (λ j. ltb i j && asked j) n
+
+  abbrev since : ℕ → ℕ
+  since n = count (λ i. turned i && not (later n i)) n
+
+  none-later : (i n : ℕ) → n ≤ suc i → later n i ≡ false
+  none-later i zero l = refl
+  none-later i (suc n) l = rw (none-later i n (omega arith), le-ltb i n (omega arith))
+
+  last-turn : (n : ℕ) → turned n && not (later (suc n) n) ≡ turned n
+  last-turn n = rw (none-later n (suc n) (le-refl (suc n))) (go (turned n))
+    where
+      go : (b : Bool) → b && true ≡ b
+      go true = refl
+      go false = refl
+
+  earlier-turn : (n i : ℕ) → i < n → turned i && not (later (suc n) i) ≡ cond (asked n) false (turned i && not (later n i))
+  earlier-turn n i l = rw (lt-ltb i n l) (go (turned i) (later n i) (asked n))
+    where
+      go : (turn before now : Bool) → turn && not (before || now) ≡ cond now false (turn && not before)
+      go true true true = refl
+      go true true false = refl
+      go true false true = refl
+      go true false false = refl
+      go false before true = refl
+      go false before false = refl
+
+  earlier-turns : (n : ℕ) → count (λ i. turned i && not (later (suc n) i)) n ≡ cond (asked n) 0 (since n)
+  earlier-turns n = go (asked n) (earlier-turn n)
+    where
+      go : (b : Bool) → ((i : ℕ) → i < n → turned i && not (later (suc n) i) ≡ cond b false (turned i && not (later n i)))
+          → count (λ i. turned i && not (later (suc n) i)) n ≡ cond b 0 (since n)
+      go true each = count-none (λ i. turned i && not (later (suc n) i)) n each
+      go false each = count-same (λ i. turned i && not (later (suc n) i)) (λ i. turned i && not (later n i)) n each
+
+  since-none : since 0 ≡ 0
+  unfolding count
+  since-none = refl
+
+  since-more : (n : ℕ) → since (suc n) ≡ tick (turned n) (cond (asked n) 0 (since n))
+  unfolding count
+  since-more n = rw (last-turn n, earlier-turns n)
+
+-- ---- one call more
+
+-- a count of turns after one more call with its answer, as `turnsOf` has it
+abbrev ticked : ℕ → Event → Answer → ℕ → ℕ
+ticked p event answer turns = cond (isAccepted answer && eqb (event .task .0) p) (counted (event .kind) turns) turns
+
+used-more : (s : Settings) (lent : Memory) (events : List Event) (event : Event) (p : ℕ)
+    → used s lent (events ++ (event ∷ [])) p ≡ ticked p event (call s event (memoryAfter s lent events) .answer) (used s lent events p)
+used-more s lent events event p =
+    ap (λ (h : List Answered). turnsOf p h 0) (history-append s events (event ∷ []) (setup s lent .memory))
+    ∙ turns-append p (historyOf s lent events) _ 0
+
+-- an accepted call counts by its kind, which its code says
+ticked-by-code : (taken its ask turn : Bool) (turns : ℕ) → (T ask → T turn → ⊥)
+    → cond (taken && its) (counted (cond ask Ask (cond turn Turn Release)) turns) turns
+    ≡ tick (taken && (its && turn)) (cond (taken && (its && ask)) 0 turns)
+ticked-by-code true true true true turns apart = absurd (apart tt tt)
+ticked-by-code true true true false turns apart = refl
+ticked-by-code true true false true turns apart = omega arith
+ticked-by-code true true false false turns apart = refl
+ticked-by-code true false ask turn turns apart = refl
+ticked-by-code false its ask turn turns apart = refl
+
+pub used-counted : UsedCounted
+used-counted s file zero p = sym (since-none (takenAt s file Ask p) (takenAt s file Turn p))
+used-counted s file (suc n) p =
+    used-more s largest (eventsOf file n) (eventAt file n) p
+    ∙ ap (ticked p (eventAt file n) (answerAt s file n)) (used-counted s file n p)
+    ∙ ticked-by-code (isAccepted (answerAt s file n)) (eqb (taskAt file n .0) p) (eqb (codeAt file n) 0) (eqb (codeAt file n) 1)
+    (turnsSince s file n p) (λ a b. let z = eqb→eq (codeAt file n) 0 a in let y = eqb→eq (codeAt file n) 1 b in omega arith)
+    ∙ sym (since-more (takenAt s file Ask p) (takenAt s file Turn p) n)
+
+-- the list of turns ticks at the task of an accepted call, and keeps its length
+module _ (event : Event) (answer : Answer) (turns : List ℕ) where
+  abbrev its : ℕ
+  its = event .task .0
+
+  abbrev new : ℕ
+  new = counted (event .kind) (getD turns its 0)
+
+  turns-ticked : (p : ℕ) → p < length turns → getD (turnsAfter event answer turns) p 0 ≡ ticked p event answer (getD turns p 0)
+  turns-ticked p l = go (isAccepted answer) (eqb its p) refl
+    where
+      go : (taken same : Bool) → eqb its p ≡ same
+          → getD (cond taken (set turns its new) turns) p 0 ≡ cond (taken && same) (counted (event .kind) (getD turns p 0)) (getD turns p 0)
+      go true true e = let z = eqb-true its p e in rw (sym z) (getD-set-same turns its new 0 (rw z l))
+      go true false e = getD-set-other turns its p new 0 (λ f. eqb-false its p e (sym f))
+      go false same e = refl
+
+  turns-long : length (turnsAfter event answer turns) ≡ length turns
+  turns-long = go (isAccepted answer)
+    where
+      go : (taken : Bool) → length (cond taken (set turns its new) turns) ≡ length turns
+      go true = length-set turns its new
+      go false = refl
+
+-- ---- the run
+
+module _ (s : Settings) (file : List ℕ) where
+  -- where the run stands after n events, and what it answers the next
+  abbrev standing : ℕ → Progress
+  standing n = progress s file n
+
+  abbrev answered : ℕ → Answer
+  answered n = call s (eventAt file n) (standing n .memory) .answer
+
+  memory-kept : (n : ℕ) → standing n .memory ≡ memoryAt s file n
+  memory-kept zero = refl
+  memory-kept (suc n) =
+      ap (λ (m : Memory). call s (eventAt file n) m .memory) (memory-kept n)
+      ∙ sym (run-append s (eventsOf file n) (eventAt file n ∷ []) (setup s largest .memory))
+
+  answer-kept : (n : ℕ) → answered n ≡ answerAt s file n
+  answer-kept n = ap (λ (m : Memory). call s (eventAt file n) m .answer) (memory-kept n)
+
+  holders-kept : (n : ℕ) → holdersOf s (standing n .memory .records) ≡ holdersAt s file n
+  holders-kept n = ap (λ (m : Memory). count (λ p. isHolding (stateOf m p)) (s .n)) (memory-kept n)
+
+  lines-kept : (n : ℕ) → standing n .lines ≡ linesOf s file n
+  lines-kept zero = refl
+  lines-kept (suc n) = rw (lines-kept n, answer-kept n)
+
+  -- ---- PEAK
+
+  abbrev HoldersMost : ℕ → ℕ → Type 0
+  HoldersMost n a = Greatest n (λ i. Unit {0}) (λ i. holdersAt s file (suc i)) a
+
+  peak-more : (n : ℕ) → standing (suc n) .peak ≡ max (standing n .peak) (holdersAt s file (suc n))
+  peak-more n = ap (max (standing n .peak)) (holders-kept (suc n))
+
+  peak-kept : (n : ℕ) → HoldersMost n (standing n .peak)
+  peak-kept zero = none-yet (λ i. Unit {0}) (λ i. holdersAt s file (suc i))
+  peak-kept (suc n) = rw (peak-more n) (one-counted (λ i. Unit {0}) (λ i. holdersAt s file (suc i)) tt (peak-kept n))
+
+  -- ---- MOST
+
+  -- the list of turns has an entry for each of 256 tasks, and it is the history's count
+  turns-all : (n : ℕ) → length (standing n .turns) ≡ 256
+  turns-all zero = length-replicate {A = ℕ} 256 0
+  turns-all (suc n) = turns-long (eventAt file n) (answered n) (standing n .turns) ∙ turns-all n
+
+  turns-kept : (p : ℕ) → p < 256 → (n : ℕ) → getD (standing n .turns) p 0 ≡ used s largest (eventsOf file n) p
+  turns-kept p l zero = getD-replicate 256 p 0 0 l
+  turns-kept p l (suc n) =
+      turns-ticked (eventAt file n) (answered n) (standing n .turns) p (rw (turns-all n) l)
+      ∙ rw (answer-kept n, turns-kept p l n) (sym (used-more s largest (eventsOf file n) (eventAt file n) p))
+
+  -- whoever is answered that it holds is one of the N tasks, and those are at most 256
+  completing-task : (n : ℕ) → Completes s file n → taskAt file n .0 < 256
+  completing-task n (name, e) =
+      let accepted = passed s (eventAt file n) (memoryAt s file n) (rw e tt) in
+      let few = limits s (accepted .lent .limits) .n-most in
+      let low = accepted .task in
+      omega arith
+
+  completed-turns : (n : ℕ) → Completes s file n → getD (standing (suc n) .turns) (taskAt file n .0) 0 ≡ turnsAt s file n
+  completed-turns n c = turns-kept (taskAt file n .0) (completing-task n c) (suc n) ∙ used-counted s file (suc n) (taskAt file n .0)
+
+  abbrev TurnsMost : ℕ → ℕ → Type 0
+  TurnsMost n a = Greatest n (Completes s file) (turnsAt s file) a
+
+  -- an answer other than "holds" completes nothing, and 0 is added to what MOST is the greatest of
+  not-completed : (n a : ℕ) (answer : Answer) → answerAt s file n ≡ answer → completed answer 1 ≡ 0 → TurnsMost n a → TurnsMost (suc n) (max a 0)
+  not-completed n a answer e none g =
+      rw (max-zero a) (one-skipped (Completes s file) (turnsAt s file)
+      (λ c. let one = ap (λ (other : Answer). completed other 1) (sym e ∙ c .1) in omega arith) g)
+
+  most-more : (n a : ℕ) (answer : Answer) → answerAt s file n ≡ answer → TurnsMost n a
+      → TurnsMost (suc n) (max a (completed answer (getD (standing (suc n) .turns) (taskAt file n .0) 0)))
+  most-more n a Answer.Done e g = not-completed n a Answer.Done e refl g
+  most-more n a Answer.Seeks e g = not-completed n a Answer.Seeks e refl g
+  most-more n a (Answer.Holds name) e g =
+      rw (completed-turns n (name, e)) (one-counted (Completes s file) (turnsAt s file) (name, e) g)
+  most-more n a (Answer.Freed name) e g = not-completed n a (Answer.Freed name) e refl g
+  most-more n a (Answer.Refused why) e g = not-completed n a (Answer.Refused why) e refl g
+
+  most-kept : (n : ℕ) → TurnsMost n (standing n .most)
+  most-kept zero = none-yet (Completes s file) (turnsAt s file)
+  most-kept (suc n) = most-more n (standing n .most) (answered n) (sym (answer-kept n)) (most-kept n)
+
+-- ---- the theorems
+
+pub end-line-counted : EndLineCounted
+end-line-counted file s n opened = record {
+  holders = holdersAt s file n;
+  peak = progress s file n .peak;
+  most = progress s file n .most;
+  counts = record { at-the-end = refl; after-any = peak-kept s file n; of-completed = most-kept s file n };
+  printed = ap (λ (o : Opening). listingBy o file) opened ∙ rw (lines-kept s file n, holders-kept s file n);
+}
+
+pub end-counts-one : EndCountsOne
+end-counts-one s file n holders peak most holders′ peak′ most′ c d = (
+  c .at-the-end ∙ sym (d .at-the-end),
+  greatest-one (λ i. Unit {0}) (λ i. holdersAt s file (suc i)) (c .after-any) (d .after-any),
+  greatest-one (Completes s file) (turnsAt s file) (c .of-completed) (d .of-completed),
+)
