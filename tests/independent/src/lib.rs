@@ -7,12 +7,14 @@
 pub mod call_cases;
 pub mod calls;
 pub mod compare;
+pub mod comparison;
 pub mod generate;
 pub mod grid;
 pub mod history;
 pub mod invariants;
 pub mod listing;
 pub mod power;
+pub mod program;
 pub mod random;
 pub mod refusal;
 pub mod schedule;

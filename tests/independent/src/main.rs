@@ -10,6 +10,7 @@ use std::time::{Instant, SystemTime, UNIX_EPOCH};
 use independent::generate::worst::{in_order, worst_schedule, LastWriter};
 use independent::grid::{Grid, Settings};
 use independent::listing::listing;
+use independent::program::Program;
 use independent::schedule::{file_of, Event, Kind, MOST_EVENTS};
 use independent::shortcuts::rules_named;
 use independent::{call_cases, compare, invariants, power};
@@ -167,8 +168,7 @@ fn compare_with(program: &str, words: &[&str]) -> Result<ExitCode, String> {
     let (options, arguments) = program_arguments(words);
     let options = Options::read(options, &["--seed", "--count", "--seconds"])?;
     Ok(closing_line(compare::run(&compare::Plan {
-        program: PathBuf::from(program),
-        arguments,
+        program: Program { path: PathBuf::from(program), arguments },
         fixed: true,
         seed: options.seed.unwrap_or(SEED),
         count: options.count.or(options.seconds.is_none().then_some(COMPARED)),
@@ -182,8 +182,7 @@ fn fresh_with(program: &str, words: &[&str]) -> Result<ExitCode, String> {
     let options = Options::read(options, &["--seconds"])?;
     let clock = SystemTime::now().duration_since(UNIX_EPOCH).map_err(|error| error.to_string())?;
     Ok(closing_line(compare::run(&compare::Plan {
-        program: PathBuf::from(program),
-        arguments,
+        program: Program { path: PathBuf::from(program), arguments },
         fixed: false,
         seed: clock.as_nanos() as u64,
         count: None,

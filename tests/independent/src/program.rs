@@ -1,0 +1,88 @@
+//! Running a program on an input, for the commands that compare, and keeping the inputs that matter.
+
+use std::fs;
+use std::io::{Read, Write};
+use std::path::{Path, PathBuf};
+use std::process::{Command, Stdio};
+use std::sync::mpsc;
+use std::thread;
+use std::time::Duration;
+
+/// A program that runs longer on one input is ended and has failed.
+const PATIENCE: Duration = Duration::from_secs(60);
+pub const RAN_TOO_LONG: &str = "ran longer than a minute";
+const DIFFERENCES: &str = "target/differences";
+
+pub struct Program {
+    pub path: PathBuf,
+    /// What the program is started with; the proved ones take nothing.
+    pub arguments: Vec<String>,
+}
+
+impl Program {
+    /// Runs the program on the bytes and answers what it printed, or what went wrong. 01 says
+    /// nothing of its exit status or of standard error, so any status will do but an end by a
+    /// signal. The bytes are handed over in pieces of so many; 0 means whole.
+    pub fn run(&self, bytes: &[u8], piece: usize) -> Result<Vec<u8>, String> {
+        let mut command = Command::new(&self.path);
+        command.args(&self.arguments);
+        command.stdin(Stdio::piped()).stdout(Stdio::piped()).stderr(Stdio::null());
+        let mut child = command.spawn().map_err(|error| format!("cannot be started: {error}"))?;
+        let input = child.stdin.take();
+        let output = child.stdout.take();
+        thread::scope(|scope| {
+            let (send, printed) = mpsc::channel();
+            scope.spawn(move || {
+                if let Some(input) = input {
+                    hand_over(input, bytes, piece);
+                }
+            });
+            scope.spawn(move || {
+                let mut bytes = Vec::new();
+                let read = output.map(|mut output| output.read_to_end(&mut bytes));
+                // Nobody listens any more if the program was ended.
+                let _ = send.send(read.map(|read| read.map(|_| bytes)));
+            });
+            let printed = printed.recv_timeout(PATIENCE);
+            if printed.is_err() {
+                // It may have ended by itself just now.
+                let _ = child.kill();
+            }
+            let status = child.wait().map_err(|error| format!("no exit status: {error}"))?;
+            match printed {
+                Err(_) => Err(RAN_TOO_LONG.to_string()),
+                Ok(Some(Ok(bytes))) if status.code().is_some() => Ok(bytes),
+                Ok(Some(Ok(_))) => Err(format!("ended by a signal: {status}")),
+                Ok(Some(Err(error))) => Err(format!("its output cannot be read: {error}")),
+                Ok(None) => Err("has no output".to_string()),
+            }
+        })
+    }
+}
+
+/// Writes the bytes. A program need not read all of an input that is too long.
+fn hand_over(mut input: impl Write, bytes: &[u8], piece: usize) {
+    if piece == 0 {
+        let _ = input.write_all(bytes);
+        return;
+    }
+    // The first pause is long enough for the program to have started and to wait for more.
+    let mut pause = Duration::from_millis(5);
+    for piece in bytes.chunks(piece) {
+        if input.write_all(piece).is_err() {
+            return;
+        }
+        thread::sleep(pause);
+        pause = Duration::from_micros(300);
+    }
+}
+
+/// Keeps an input on which the program differs.
+pub fn keep(name: &str, bytes: &[u8]) {
+    let path = Path::new(DIFFERENCES).join(name);
+    let kept = fs::create_dir_all(DIFFERENCES).and_then(|()| fs::write(&path, bytes));
+    match kept {
+        Ok(()) => println!("  saved {}", path.display()),
+        Err(error) => println!("  not saved: {error}"),
+    }
+}
