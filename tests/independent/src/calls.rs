@@ -191,7 +191,7 @@ fn first_out_of_range(
         }
     }
     for (index, x) in memory.registers.x[..needed.x].iter().enumerate() {
-        if *x > settings.n {
+        if *x > u32::from(settings.n) {
             return Some((Row::X, index));
         }
     }

@@ -1,5 +1,5 @@
-//! A program, run on one input after another, must print the bytes that are due on each. An input
-//! holds one case or many, and each case counts one.
+//! What `compare` and `calls` share: a program, run on one input after another, must print the
+//! bytes that are due on each. An input holds one case or many, and each case counts one.
 
 use std::collections::BTreeMap;
 use std::sync::atomic::{AtomicUsize, Ordering};

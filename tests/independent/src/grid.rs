@@ -141,13 +141,13 @@ impl Record {
 /// The shared registers. An X of 0 means nobody, p+1 means task p; a mark is 0 or 1.
 #[derive(Clone, PartialEq, Eq, Hash, Debug)]
 pub struct Registers {
-    pub x: Vec<u16>,
+    pub x: Vec<u32>,
     pub marks: Vec<u8>,
 }
 
 /// The X that names task p.
-pub fn x_of(p: usize) -> u16 {
-    p as u16 + 1
+pub fn x_of(p: usize) -> u32 {
+    p as u32 + 1
 }
 
 /// The rules of the grid. What stands here is the grid itself; each of the shortcuts puts its own

@@ -2,7 +2,8 @@
 //!
 //! The machine is `grid` (what an accepted call does), `calls` (who is refused and why), `schedule`
 //! (the file) and `listing` (the text). `shortcuts` holds the wrong grids that 01 warns of.
-//! `generate` makes schedules and damaged files from a seed; the rest are the commands.
+//! `generate` makes schedules and damaged files from a seed, `call_cases` calls on any memory;
+//! `comparison` runs a program on them. The rest are the commands.
 
 pub mod call_cases;
 pub mod calls;

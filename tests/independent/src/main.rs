@@ -3,12 +3,12 @@
 use std::env;
 use std::fs;
 use std::io::{self, Read, Write};
-use std::path::PathBuf;
+use std::path::{Path, PathBuf};
 use std::process::ExitCode;
 use std::time::{Instant, SystemTime, UNIX_EPOCH};
 
 use independent::generate::worst::{in_order, worst_schedule, LastWriter};
-use independent::grid::{Grid, Settings};
+use independent::grid::{Grid, Rules, Settings};
 use independent::listing::listing;
 use independent::program::Program;
 use independent::schedule::{file_of, Event, Kind, MOST_EVENTS};
@@ -34,6 +34,15 @@ independent worst MODE N K
     writes the worst schedule, or as much of it as fits a file
 independent calls [--seed S]
     prints calls on arbitrary memories with their answers
+independent calls PROGRAM [--seed S] [--seconds T] [-- ARGUMENTS...]
+    compares what PROGRAM prints on these calls, in the binary form, with the answers and rows here;
+    with a time, on those of the seeds that follow too
+independent calls --store DIR
+    writes DIR/stdin, one input of small calls of every family, and DIR/stdout, what is due on it
+independent calls --check-store DIR
+    compares these two files with what would be written
+independent memories [--variant NAME]
+    prints what is due on an input of calls, by the grid or by a shortcut
 independent time FILE
     prints the time that the listing of FILE takes here";
 
@@ -86,11 +95,21 @@ fn run(words: &[&str]) -> Result<ExitCode, String> {
             events.truncate(MOST_EVENTS);
             print(&file_of(settings, &events).map_err(|refusal| refusal.to_string())?)
         }
-        ["calls", options @ ..] => {
-            let options = Options::read(options, &["--seed"])?;
+        ["calls", "--store", directory] => {
+            let written = call_cases::store::write(Path::new(directory));
+            written.map(|()| ExitCode::SUCCESS).map_err(|error| format!("{directory}: {error}"))
+        }
+        ["calls", "--check-store", directory] => {
+            Ok(closing_line(call_cases::store::check(Path::new(directory))))
+        }
+        ["calls"] | ["calls", "--seed", ..] => {
+            let options = Options::read(&words[1..], &["--seed"])?;
             let cases = call_cases::cases(options.seed.unwrap_or(SEED));
             print(call_cases::text(&cases).as_bytes())
         }
+        ["calls", program, words @ ..] => compare_calls(program, words),
+        ["memories"] => make_calls("grid"),
+        ["memories", "--variant", name] => make_calls(name),
         ["time", file] => time(&read_file(file)?),
         _ => Err(USAGE.to_string()),
     }
@@ -156,11 +175,22 @@ fn print(bytes: &[u8]) -> Result<ExitCode, String> {
     written.map(|()| ExitCode::SUCCESS).map_err(|error| error.to_string())
 }
 
-fn list_input(variant: &str) -> Result<ExitCode, String> {
-    let rules = rules_named(variant).ok_or(format!("no variant {variant}"))?;
+fn read_input() -> Result<Vec<u8>, String> {
     let mut bytes = Vec::new();
     io::stdin().lock().read_to_end(&mut bytes).map_err(|error| error.to_string())?;
-    print(listing(rules, &bytes).as_bytes())
+    Ok(bytes)
+}
+
+fn variant(name: &str) -> Result<&'static dyn Rules, String> {
+    rules_named(name).ok_or(format!("no variant {name}"))
+}
+
+fn list_input(name: &str) -> Result<ExitCode, String> {
+    print(listing(variant(name)?, &read_input()?).as_bytes())
+}
+
+fn make_calls(name: &str) -> Result<ExitCode, String> {
+    print(call_cases::outcomes(variant(name)?, &read_input()?)?.as_bytes())
 }
 
 /// The fixed cases and the random ones of a seed.
@@ -172,6 +202,17 @@ fn compare_with(program: &str, words: &[&str]) -> Result<ExitCode, String> {
         fixed: true,
         seed: options.seed.unwrap_or(SEED),
         count: options.count.or(options.seconds.is_none().then_some(COMPARED)),
+        seconds: options.seconds,
+    })))
+}
+
+/// The calls of a seed and, if there is a time, of those that follow.
+fn compare_calls(program: &str, words: &[&str]) -> Result<ExitCode, String> {
+    let (options, arguments) = program_arguments(words);
+    let options = Options::read(options, &["--seed", "--seconds"])?;
+    Ok(closing_line(call_cases::run(&call_cases::Plan {
+        program: Program { path: PathBuf::from(program), arguments },
+        seed: options.seed.unwrap_or(SEED),
         seconds: options.seconds,
     })))
 }

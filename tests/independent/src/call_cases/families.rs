@@ -1,19 +1,27 @@
-//! The families of calls: what each tries.
+//! The families of calls on memories in range, in rows of just the needed length: what each tries.
 
-use super::memories::{bad_records, blocks, places};
-use super::{Call, CallCase};
-use crate::calls::{ask, release, setup, turn, Memory, Needed};
-use crate::grid::{x_of, Grid, Identifier, Place, Point, Record, Rules, Settings};
+use super::memories::{blocks, places};
+use super::{Call, CallCase, MOST_RECORDS};
+use crate::calls::Memory;
+use crate::grid::{x_of, Direction, Grid, Place, Point, Record, Rules, Settings};
 use crate::random::Random;
+use crate::refusal::Row;
 
 pub struct Maker {
-    random: Random,
+    pub random: Random,
     pub cases: Vec<CallCase>,
 }
 
+pub const ROWS: [Row; 3] = [Row::Records, Row::X, Row::Marks];
+
 /// Calls of every kind by a task.
-fn calls_of(id: u16) -> [Call; 3] {
+pub fn calls_of(id: u16) -> [Call; 3] {
     [Call::Ask(id), Call::Turn(id), Call::Release(id)]
+}
+
+/// The same and a setup.
+pub fn all_calls(id: u16) -> [Call; 4] {
+    [Call::Ask(id), Call::Turn(id), Call::Release(id), Call::Setup]
 }
 
 impl Maker {
@@ -22,21 +30,32 @@ impl Maker {
         Maker { random, cases: Vec::new() }
     }
 
-    fn push(&mut self, tries: &str, settings: Settings, before: &Memory, call: Call) {
-        let mut after = before.clone();
-        let answer = match call {
-            Call::Setup => setup(&Grid, settings, &mut after),
-            Call::Ask(id) => ask(&Grid, settings, Identifier(id.into()), &mut after),
-            Call::Turn(id) => turn(&Grid, settings, Identifier(id.into()), &mut after),
-            Call::Release(id) => release(&Grid, settings, Identifier(id.into()), &mut after),
-        };
-        let (tries, before) = (tries.to_string(), before.clone());
-        self.cases.push(CallCase { tries, settings, before, call, answer, after });
+    pub fn push(&mut self, tries: &'static str, settings: Settings, before: &Memory, call: Call) {
+        self.cases.push(CallCase::new(&Grid, tries, settings, before.clone(), call));
     }
 
-    /// Every point in some blocks: with registers as they come, and with the one register that the
-    /// turn touches unlike all the others, so that a turn that touches another is seen.
-    pub fn points(&mut self, settings: Settings) {
+    /// The families that settings in the limits have; some stand in `surplus` and `faults`.
+    pub fn every_family(&mut self, settings: Settings) {
+        self.points(settings);
+        self.own_x(settings);
+        self.own_marks(settings);
+        self.holders(settings);
+        self.edge_holders(settings);
+        self.asks(settings);
+        self.many_out(settings);
+        self.greatest_values(settings);
+        self.surplus(settings);
+        self.bad_surplus(settings);
+        self.short_rows(settings);
+        self.bad_values(settings);
+        self.bad_rows(settings);
+        self.later_blocks(settings);
+        self.identifiers(settings);
+    }
+
+    /// Every point in some blocks: with registers as they come, and with the one that is touched
+    /// unlike all the others.
+    fn points(&mut self, settings: Settings) {
         let mut blocks = blocks(settings);
         self.random.shuffle(&mut blocks);
         blocks.truncate(6);
@@ -46,20 +65,105 @@ impl Maker {
                 let mut memory = self.random.memory(settings);
                 memory.records[usize::from(p)] = Record::Seeking(place, point);
                 self.push("point", settings, &memory, Call::Turn(p));
-                let block = settings.block(place);
-                let touched = match point {
-                    Point::Scan(h) => usize::from(h),
-                    _ => usize::from(p),
-                };
                 for value in [0, 1] {
-                    let own = x_of(usize::from(p));
-                    memory.registers.x.fill(own * (1 - value));
-                    memory.registers.x[block] = own * value;
-                    memory.registers.marks.fill(1 - value as u8);
-                    memory.registers.marks[Grid.mark(settings, block, touched)] = value as u8;
-                    self.push("point", settings, &memory, Call::Turn(p));
+                    self.touch("point", settings, &mut memory, p, value);
                 }
             }
+        }
+    }
+
+    /// Turns in every block, each with the one register that it touches unlike all the others.
+    pub fn every_block(&mut self, settings: Settings) {
+        let clears = [Direction::Right, Direction::Down].map(Point::Clear);
+        for place in blocks(settings) {
+            let p = self.random.task(settings);
+            let points = if settings.long_lived() {
+                vec![Point::WriteMark, clears[0], clears[1]]
+            } else {
+                vec![Point::WriteX, Point::Scan(0), Point::WriteMark, Point::ReadX]
+            };
+            for point in points {
+                let mut memory = self.random.memory(settings);
+                memory.records[usize::from(p)] = Record::Seeking(place, point);
+                let value = self.random.pick(&[0, 1]);
+                self.touch("every block", settings, &mut memory, p, value);
+            }
+        }
+    }
+
+    /// A turn of the seeking task p with the one register of each row that it may touch unlike all
+    /// the others, so that a turn that touches another is seen.
+    fn touch(
+        &mut self,
+        tries: &'static str,
+        settings: Settings,
+        memory: &mut Memory,
+        p: u16,
+        value: u8,
+    ) {
+        let Record::Seeking(place, point) = memory.records[usize::from(p)] else {
+            return;
+        };
+        let block = settings.block(place);
+        let touched = match point {
+            Point::Scan(h) => usize::from(h),
+            _ => usize::from(p),
+        };
+        let own = x_of(usize::from(p));
+        memory.registers.x.fill(own * u32::from(1 - value));
+        memory.registers.x[block] = own * u32::from(value);
+        memory.registers.marks.fill(1 - value);
+        memory.registers.marks[Grid.mark(settings, block, touched)] = value;
+        self.push(tries, settings, memory, Call::Turn(p));
+    }
+
+    /// The X of the first, the last and any task: written, and read where it is the task's own, that
+    /// of the task before or after, or nobody's. The last task's of 256 is 0 in 8 bits.
+    fn own_x(&mut self, settings: Settings) {
+        let blocks = blocks(settings);
+        if blocks.is_empty() {
+            return;
+        }
+        for p in self.random.positions(settings.tasks()) {
+            let place = self.random.pick(&blocks);
+            let mut memory = self.random.memory(settings);
+            memory.records[p] = Record::Seeking(place, Point::WriteX);
+            self.push("own X", settings, &memory, Call::Turn(p as u16));
+            memory.records[p] = Record::Seeking(place, Point::ReadX);
+            let own = x_of(p);
+            let near = [0, own - 1, own, own + 1];
+            for x in near.into_iter().filter(|x| *x <= u32::from(settings.n)) {
+                memory.registers.x[settings.block(place)] = x;
+                self.push("own X", settings, &memory, Call::Turn(p as u16));
+            }
+        }
+    }
+
+    /// The own mark of the first, the last and any task, long-lived: scanned as any other, so that
+    /// the task goes right if it is 1; then written, cleared and released.
+    fn own_marks(&mut self, settings: Settings) {
+        let blocks = blocks(settings);
+        if blocks.is_empty() || !settings.long_lived() {
+            return;
+        }
+        let clears = [Direction::Right, Direction::Down].map(Point::Clear);
+        for p in self.random.positions(settings.tasks()) {
+            let place = self.random.pick(&blocks);
+            let task = p as u16;
+            let mut memory = self.random.memory(settings);
+            memory.records[p] = Record::Seeking(place, Point::Scan(task));
+            for (own, others) in [(1, 0), (1, 1), (0, 1)] {
+                memory.registers.marks.fill(others);
+                memory.registers.marks[Grid.mark(settings, settings.block(place), p)] = own;
+                self.push("own mark", settings, &memory, Call::Turn(task));
+            }
+            for (point, value) in [(Point::WriteMark, 0), (clears[0], 1), (clears[1], 1)] {
+                memory.records[p] = Record::Seeking(place, point);
+                self.touch("own mark", settings, &mut memory, task, value);
+            }
+            memory.records[p] = Record::Holding(place);
+            memory.registers.marks.fill(1);
+            self.push("own mark", settings, &memory, Call::Release(task));
         }
     }
 
@@ -69,16 +173,30 @@ impl Maker {
         self.random.shuffle(&mut places);
         places.truncate(8);
         for place in places {
-            let (p, other) = (self.random.task(settings), self.random.task(settings));
+            let mut tasks: Vec<u16> = (0..settings.n).collect();
+            self.random.shuffle(&mut tasks);
             for value in [0, 1] {
                 let mut memory = self.random.memory(settings);
-                memory.records[usize::from(other)] = Record::Holding(place);
-                memory.records[usize::from(p)] = Record::Holding(place);
+                for task in tasks.iter().take(2) {
+                    memory.records[usize::from(*task)] = Record::Holding(place);
+                }
                 memory.registers.marks.fill(value);
-                for call in calls_of(p) {
+                for call in calls_of(tasks[0]) {
                     self.push("holder", settings, &memory, call);
                 }
             }
+        }
+    }
+
+    /// A release at every place on the edge: it touches no register.
+    fn edge_holders(&mut self, settings: Settings) {
+        let edge = settings.k - 1;
+        for place in (0..=edge).map(|r| Place { r, c: edge - r }) {
+            let p = self.random.task(settings);
+            let mut memory = self.random.memory(settings);
+            memory.records[usize::from(p)] = Record::Holding(place);
+            memory.registers.marks.fill(1);
+            self.push("edge holder", settings, &memory, Call::Release(p));
         }
     }
 
@@ -94,109 +212,65 @@ impl Maker {
                 memory.records[*task] = self.random.record(settings, idle);
             }
             memory.records.extend([Record::Holding(Place { r: 0, c: 0 }); 2]);
+            memory.records.truncate(MOST_RECORDS);
             for task in [tasks[0], tasks[tasks.len() - 1]] {
                 self.push("ask", settings, &memory, Call::Ask(task as u16));
             }
         }
     }
 
-    /// Each row one too short, and empty; also with a bad value, which comes second.
-    pub fn short_rows(&mut self, settings: Settings) {
-        let needed = Needed::new(&Grid, settings);
-        for (row, length) in [needed.records, needed.x, needed.marks].into_iter().enumerate() {
-            let shorter = [length.saturating_sub(1), 0];
-            for left in shorter.into_iter().filter(|left| *left < length) {
-                let mut memory = self.random.memory(settings);
-                memory.records[0] = Record::Holding(Place { r: 255, c: 255 });
-                match row {
-                    0 => memory.records.truncate(left),
-                    1 => memory.registers.x.truncate(left),
-                    _ => memory.registers.marks.truncate(left),
-                }
-                let p = self.random.task(settings);
-                for call in calls_of(p).into_iter().chain([Call::Setup]) {
-                    self.push("short row", settings, &memory, call);
-                }
-            }
+    /// A turn and a release with every task out, more than k: they are accepted.
+    fn many_out(&mut self, settings: Settings) {
+        if settings.tasks() <= settings.k() {
+            return;
         }
-    }
-
-    /// Each kind of bad value first, last and anywhere in its row, alone and before another.
-    pub fn bad_values(&mut self, settings: Settings) {
-        let needed = Needed::new(&Grid, settings);
-        for record in bad_records(settings) {
-            for at in self.random.positions(needed.records) {
-                let mut memory = self.random.memory(settings);
-                memory.records[at] = record;
-                self.push_bad(settings, &memory);
-            }
-        }
-        for x in [settings.n + 1, 512, 65_535] {
-            for at in self.random.positions(needed.x) {
-                let mut memory = self.random.memory(settings);
-                memory.registers.x[at] = x;
-                self.push_bad(settings, &memory);
-            }
-        }
-        for mark in [2, 128, 255] {
-            for at in self.random.positions(needed.marks) {
-                let mut memory = self.random.memory(settings);
-                memory.registers.marks[at] = mark;
-                let last = needed.marks - 1;
-                memory.registers.marks[last] = mark;
-                self.push_bad(settings, &memory);
-            }
-        }
-        if needed.x > 0 {
-            let mut memory = self.random.memory(settings);
-            memory.registers.marks[0] = 2;
-            memory.registers.x[needed.x - 1] = settings.n + 1;
-            self.push_bad(settings, &memory);
-            memory.records[settings.tasks() - 1] = Record::Holding(Place { r: 16, c: 0 });
-            self.push_bad(settings, &memory);
-        }
-    }
-
-    /// One call by a task, one by an identifier beyond N, and now and then a setup.
-    fn push_bad(&mut self, settings: Settings, memory: &Memory) {
-        let p = self.random.task(settings);
-        let beyond = settings.n;
-        let calls = [calls_of(p), calls_of(beyond)].map(|calls| self.random.pick(&calls));
-        for call in calls {
-            self.push("bad value", settings, memory, call);
-        }
-        if self.random.percent(10) {
-            self.push("bad value", settings, memory, Call::Setup);
-        }
-    }
-
-    /// Longer rows with anything in the surplus.
-    pub fn surplus(&mut self, settings: Settings) {
         for _ in 0..3 {
-            let mut memory = self.random.memory(settings);
-            let bad = bad_records(settings);
-            let more = self.random.between(1, 3);
-            for _ in 0..more {
-                let record = self.random.pick(&bad);
-                memory.records.push(record);
-                let x = self.random.pick(&[0, 1, settings.n + 1, 65_535]);
-                memory.registers.x.push(x);
-                let mark = self.random.pick(&[0, 1, 2, 255]);
-                memory.registers.marks.push(mark);
-            }
             let p = self.random.task(settings);
-            for call in calls_of(p).into_iter().chain(calls_of(settings.n)).chain([Call::Setup]) {
-                self.push("surplus", settings, &memory, call);
+            for call in [Call::Turn(p), Call::Release(p)] {
+                let mut memory = self.random.memory(settings);
+                for record in &mut memory.records {
+                    *record = self.random.record(settings, 0);
+                }
+                if let Some(record) = self.ready(settings, call) {
+                    memory.records[usize::from(p)] = record;
+                    self.push("many out", settings, &memory, call);
+                }
             }
         }
     }
 
-    pub fn identifiers(&mut self, settings: Settings) {
-        let n = settings.n;
-        for id in [n - 1, n, n + 1, 256, 257, 32_768, 65_535] {
-            let memory = self.random.memory(settings);
-            for call in calls_of(id) {
-                self.push("identifier", settings, &memory, call);
+    /// Every value the greatest in its range.
+    fn greatest_values(&mut self, settings: Settings) {
+        let mut memory = Memory::idle(&Grid, settings);
+        let edge = settings.k - 1;
+        memory.records.fill(Record::Holding(Place { r: edge, c: 0 }));
+        memory.registers.x.fill(u32::from(settings.n));
+        memory.registers.marks.fill(1);
+        let p = settings.n - 1;
+        self.push("greatest values", settings, &memory, Call::Release(p));
+        let scan = Point::Scan(if settings.long_lived() { p } else { 0 });
+        for point in [scan, Point::ReadX] {
+            if edge > 0 {
+                memory.records[usize::from(p)] =
+                    Record::Seeking(Place { r: edge - 1, c: 0 }, point);
+                self.push("greatest values", settings, &memory, Call::Turn(p));
+            }
+        }
+    }
+
+    /// A record on which the call is accepted, if there is one.
+    pub fn ready(&mut self, settings: Settings, call: Call) -> Option<Record> {
+        let blocks = blocks(settings);
+        match call {
+            Call::Setup | Call::Ask(_) => Some(Record::Idle),
+            Call::Turn(_) if blocks.is_empty() => None,
+            Call::Turn(p) => {
+                let points = self.random.points_of(settings, p);
+                Some(Record::Seeking(self.random.pick(&blocks), self.random.pick(&points)))
+            }
+            Call::Release(_) => {
+                let place = self.random.pick(&places(settings.k() - 1));
+                settings.long_lived().then_some(Record::Holding(place))
             }
         }
     }
@@ -215,36 +289,6 @@ impl Maker {
                 };
                 self.push("anything", settings, &memory, call);
                 memory = self.cases[self.cases.len() - 1].after.clone();
-            }
-        }
-    }
-
-    /// Settings outside the limits, on rows that would do for many others, and on empty ones.
-    pub fn bad_settings(&mut self) {
-        let bad = [
-            (2, 3, 3),
-            (255, 1, 1),
-            (0, 0, 0),
-            (1, 0, 1),
-            (0, 1, 0),
-            (1, 2, 3),
-            (0, 15, 16),
-            (1, 17, 17),
-            (0, 256, 17),
-            (1, 256, 255),
-            (0, 257, 1),
-            (1, 257, 16),
-            (1, 512, 2),
-            (1, 65_535, 16),
-        ];
-        let empty = Memory::idle(&Grid, Settings::new(0, 0, 0));
-        let enough = self.random.memory(Settings::new(1, 6, 4));
-        for (mode, n, k) in bad {
-            let settings = Settings::new(mode, n, k);
-            for memory in [&empty, &enough] {
-                for call in calls_of(0).into_iter().chain([Call::Setup]) {
-                    self.push("settings", settings, memory, call);
-                }
             }
         }
     }

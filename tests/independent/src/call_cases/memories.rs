@@ -55,7 +55,7 @@ impl Random {
             *record = self.record(settings, idle);
         }
         for x in &mut memory.registers.x {
-            *x = self.between(0, settings.tasks()) as u16;
+            *x = self.between(0, settings.tasks()) as u32;
         }
         for mark in &mut memory.registers.marks {
             *mark = u8::from(self.percent(marked));
@@ -63,15 +63,12 @@ impl Random {
         memory
     }
 
-    /// First, last and anywhere in a row of that length.
+    /// First, last and anywhere between them in a row of that length.
     pub fn positions(&mut self, length: usize) -> Vec<usize> {
-        if length == 0 {
-            return Vec::new();
+        match length {
+            0..=2 => (0..length).collect(),
+            _ => vec![0, self.between(1, length - 2), length - 1],
         }
-        let mut positions = vec![0, self.below(length), length - 1];
-        positions.sort_unstable();
-        positions.dedup();
-        positions
     }
 }
 

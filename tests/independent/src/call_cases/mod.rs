@@ -17,19 +17,34 @@
 //! A RECORD is `idle`, `hold/R/C` or `seek/R/C/POINT`; a POINT is `x` (write X), `scan/H`, `mark`
 //! (write mark), `read` (read X), `right` or `down` (clear, going there). ROW is `records`, `x` or
 //! `marks`. Words are parted by one space; an empty row is its first word alone. The last line is
-//! `end NUMBER`, the number of cases. MODE, K, R, C and marks are below 256; N, H, X and
-//! identifiers below 65,536. A program with narrower types skips the cases that it cannot hold.
+//! `end NUMBER`, the number of cases. MODE, K, R, C and marks are below 256; N, H and identifiers
+//! below 65,536; X below 4,294,967,296.
+//!
+//! `calls PROGRAM` hands the cases over in the form of `binary`, and the program prints each case's
+//! last four lines, those of its outcome.
 
+mod binary;
+mod compare;
 mod families;
+mod faults;
 mod memories;
+pub mod store;
+mod surplus;
 
 use std::fmt::Write;
 
-use crate::calls::{Answer, Memory};
-use crate::grid::{Direction, Point, Record, Settings};
+use crate::calls::{ask, release, setup, turn, Answer, Memory};
+use crate::grid::{Direction, Identifier, Point, Record, Rules, Settings};
 use crate::refusal::Refusal;
 
+pub use binary::{pack, unpack, MOST_BYTES};
+pub use compare::{inputs, run, Plan};
 use families::Maker;
+
+/// The longest rows that are lent.
+pub const MOST_RECORDS: usize = 256;
+pub const MOST_X: usize = 128;
+pub const MOST_MARKS: usize = 30_740;
 
 #[derive(Clone, Copy, PartialEq, Debug)]
 pub enum Call {
@@ -39,8 +54,9 @@ pub enum Call {
     Release(u16),
 }
 
+#[derive(Clone, PartialEq, Debug)]
 pub struct CallCase {
-    pub tries: String,
+    pub tries: &'static str,
     pub settings: Settings,
     pub before: Memory,
     pub call: Call,
@@ -48,26 +64,78 @@ pub struct CallCase {
     pub after: Memory,
 }
 
-/// The cases of a seed.
+impl CallCase {
+    /// The call made on the memory under the rules.
+    pub fn new(
+        rules: &dyn Rules,
+        tries: &'static str,
+        settings: Settings,
+        before: Memory,
+        call: Call,
+    ) -> CallCase {
+        let mut after = before.clone();
+        let answer = match call {
+            Call::Setup => setup(rules, settings, &mut after),
+            Call::Ask(id) => ask(rules, settings, Identifier(id.into()), &mut after),
+            Call::Turn(id) => turn(rules, settings, Identifier(id.into()), &mut after),
+            Call::Release(id) => release(rules, settings, Identifier(id.into()), &mut after),
+        };
+        CallCase { tries, settings, before, call, answer, after }
+    }
+
+    /// What is called: `setup`, `ask ID`, `turn ID` or `release ID`.
+    pub fn call_words(&self) -> String {
+        match self.call {
+            Call::Setup => "setup".to_string(),
+            Call::Ask(id) => format!("ask {id}"),
+            Call::Turn(id) => format!("turn {id}"),
+            Call::Release(id) => format!("release {id}"),
+        }
+    }
+
+    /// The lines of the outcome: the answer and the rows after the call.
+    pub fn outcome(&self) -> String {
+        let answer = match self.answer {
+            Ok(answer) => answer.to_string(),
+            Err(Refusal::OutOfRange { row, index }) => format!("refused 3 {row} {index}"),
+            Err(refusal) => refusal.to_string(),
+        };
+        let mut text = format!("answer {answer}\n");
+        write_memory(&mut text, &self.after);
+        text
+    }
+}
+
+/// The cases of a seed. The first two make an input of just the greatest length.
 pub fn cases(seed: u64) -> Vec<CallCase> {
     let mut maker = Maker::new(seed);
+    maker.greatest_rows();
     let sizes = [(1, 1), (3, 1), (2, 2), (3, 2), (3, 3), (4, 3), (5, 4), (16, 16), (256, 2)];
     for mode in [0, 1] {
         for (n, k) in sizes {
-            let settings = Settings::new(mode, n, k);
-            maker.points(settings);
-            maker.holders(settings);
-            maker.asks(settings);
-            maker.short_rows(settings);
-            maker.bad_values(settings);
-            maker.surplus(settings);
-            maker.identifiers(settings);
-            maker.anything(settings, 12);
+            maker.every_family(Settings::new(mode, n, k));
+            maker.anything(Settings::new(mode, n, k), 12);
+        }
+        for (n, k) in [(5, 2), (6, 3), (8, 4)] {
+            maker.asks(Settings::new(mode, n, k));
         }
         maker.anything(Settings::new(mode, 256, 16), 4);
+        maker.surplus(Settings::new(mode, 255, 3));
+        maker.every_block(Settings::new(mode, 16, 16));
+        for (n, k) in [(1, 1), (2, 1), (2, 2), (3, 2), (3, 3), (4, 1), (4, 3)] {
+            maker.row_lengths(Settings::new(mode, n, k), 0..=8);
+        }
     }
     maker.bad_settings();
     maker.cases
+}
+
+/// What a program prints on an input in the binary form if it has these rules.
+pub fn outcomes(rules: &dyn Rules, input: &[u8]) -> Result<String, String> {
+    let asked = unpack(input)?.into_iter();
+    let outcome =
+        |(settings, before, call)| CallCase::new(rules, "", settings, before, call).outcome();
+    Ok(asked.map(outcome).collect())
 }
 
 /// The cases as text.
@@ -79,20 +147,8 @@ pub fn text(cases: &[CallCase]) -> String {
         let _ = writeln!(text, "case {number} {}", case.tries);
         let _ = writeln!(text, "settings {mode} {n} {k}");
         write_memory(&mut text, &case.before);
-        let _ = match case.call {
-            Call::Setup => writeln!(text, "call setup"),
-            Call::Ask(id) => writeln!(text, "call ask {id}"),
-            Call::Turn(id) => writeln!(text, "call turn {id}"),
-            Call::Release(id) => writeln!(text, "call release {id}"),
-        };
-        let _ = match case.answer {
-            Ok(answer) => writeln!(text, "answer {answer}"),
-            Err(Refusal::OutOfRange { row, index }) => {
-                writeln!(text, "answer refused 3 {row} {index}")
-            }
-            Err(refusal) => writeln!(text, "answer {refusal}"),
-        };
-        write_memory(&mut text, &case.after);
+        let _ = writeln!(text, "call {}", case.call_words());
+        text.push_str(&case.outcome());
     }
     let _ = writeln!(text, "end {}", cases.len());
     text
