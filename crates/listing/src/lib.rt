@@ -74,28 +74,6 @@ fn labelled(room: &mut [u8], at: usize, label: &[u8], n: u16) -> usize
     decimal(room, next, n)
 }
 
-// The number of a refusal.
-fn number_of(why: Refusal) -> u16
-    ensures { λ n. ⌜ n ≡ numberOf why ⌝ }
-{
-    match why {
-        Refusal::Limits => 1,
-        Refusal::ShortRow => 2,
-        Refusal::OutOfRange { row: _, index: _ } => 3,
-        Refusal::NoSuchTask => 4,
-        Refusal::OneTime => 5,
-        Refusal::WrongMoment => 6,
-        Refusal::TooManyOut => 7,
-        Refusal::FileLength => 8,
-        Refusal::Letters => 9,
-        Refusal::Version => 10,
-        Refusal::TooManyEvents => 11,
-        Refusal::EventCode => 12,
-        Refusal::NoEvent => 13,
-        Refusal::ShortRoom => 14,
-    }
-}
-
 // KIND: ask, turn or free.
 fn put_kind(room: &mut [u8], at: usize, kind: Kind) -> usize
     requires { ⌜ at + 5 ≤ length (now room) ⌝ }
@@ -118,7 +96,7 @@ fn put_answer(room: &mut [u8], at: usize, answer: Answer) -> usize
         Answer::Seeks => copy(room, at, b"seeks"),
         Answer::Holds(name) => labelled(room, at, b"holds ", name.0),
         Answer::Freed(name) => labelled(room, at, b"freed ", name.0),
-        Answer::Refused(why) => labelled(room, at, b"refused ", number_of(why)),
+        Answer::Refused(why) => labelled(room, at, b"refused ", why.number()),
     }
 }
 
@@ -391,7 +369,7 @@ fn put_refused(room: &mut [u8], why: Refusal) -> usize
     requires { ⌜ 14 ≤ length (now room) ⌝ }
     ensures { λ to. ⌜ Puts (now (room .entry)) 0 (refusedLine (numberOf why)) to (now (room .exit)) ⌝ }
 {
-    let at = labelled(room, 0, b"refused ", number_of(why));
+    let at = labelled(room, 0, b"refused ", why.number());
     line_feed(room, at)
 }
 

@@ -1,10 +1,10 @@
-// What a supervisor holds and is answered: the types of the grid, and the one step of a task's
-// record. Every definition that a contract cites is in
-// `specs/`.
+// What a supervisor holds and is answered: the types of the grid, the numbers of the refusals, and the
+// one step of a task's record. Every definition that a contract cites is in `specs/`.
 
 ghost use mathlib.Core.Path.{_≡_};
 ghost use Prim.Native.Nat.{_+_, _≤_};
 ghost use lib.Dec.{T};
+ghost use Rattle.machine.specs.Answers.{numberOf};
 ghost use Rattle.machine.specs.Settings.{width};
 ghost use Rattle.machine.specs.Records.{pointInRange, recordInRange};
 ghost use Rattle.machine.specs.Turn.{arrive, move, leave, pointTurned, nextRecord};
@@ -149,6 +149,30 @@ pub enum Reading {
 pub enum Writing {
     Wrote(usize),
     Refused(Refusal),
+}
+
+impl Refusal {
+    // The number that an operator knows a refusal by.
+    pub fn number(self) -> u16
+        ensures { λ n. ⌜ n ≡ numberOf self ⌝ }
+    {
+        match self {
+            Refusal::Limits => 1,
+            Refusal::ShortRow => 2,
+            Refusal::OutOfRange { row: _, index: _ } => 3,
+            Refusal::NoSuchTask => 4,
+            Refusal::OneTime => 5,
+            Refusal::WrongMoment => 6,
+            Refusal::TooManyOut => 7,
+            Refusal::FileLength => 8,
+            Refusal::Letters => 9,
+            Refusal::Version => 10,
+            Refusal::TooManyEvents => 11,
+            Refusal::EventCode => 12,
+            Refusal::NoEvent => 13,
+            Refusal::ShortRoom => 14,
+        }
+    }
 }
 
 impl Settings {

@@ -13,22 +13,7 @@ use machine::Writing;
 
 // The number of a refusal.
 fn number(why: Refusal) -> u64 {
-    match why {
-        Refusal::Limits => 1,
-        Refusal::ShortRow => 2,
-        Refusal::OutOfRange { row: _, index: _ } => 3,
-        Refusal::NoSuchTask => 4,
-        Refusal::OneTime => 5,
-        Refusal::WrongMoment => 6,
-        Refusal::TooManyOut => 7,
-        Refusal::FileLength => 8,
-        Refusal::Letters => 9,
-        Refusal::Version => 10,
-        Refusal::TooManyEvents => 11,
-        Refusal::EventCode => 12,
-        Refusal::NoEvent => 13,
-        Refusal::ShortRoom => 14,
-    }
+    why.number() as u64
 }
 
 // The code of an event.

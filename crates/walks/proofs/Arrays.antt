@@ -40,7 +40,7 @@ use Rattle.walks.proofs.Statements.{at, entry, cell, type-of}
 
 module _ {M : Type 1} {𝓤 : URA M} {H : Heap 𝓤} {A : Atoms 𝓤} {K : Type 0} {W : Given 𝓤 H A} {Γ : List (Item 𝓤)} {G : Goal 𝓤 H} where
   -- an entry goes to the front, and leaves its place empty; and goes back there
-  lifts : K → (n : ℕ) → Step K W (nth 𝓤 H A n Γ ∷ put 𝓤 H A n (‵ ftrue) Γ) G Γ G
+  pub lifts : K → (n : ℕ) → Step K W (nth 𝓤 H A n Γ ∷ put 𝓤 H A n (‵ ftrue) Γ) G Γ G
   lifts t n = step (λ s. record {
     prf = via 𝓤 (sep 𝓤 (mean 𝓤 H A (nth 𝓤 H A n Γ)) (⋆ 𝓤 H A (del 𝓤 H A n Γ))) (pull 𝓤 H A n Γ)
         (via 𝓤 (sep 𝓤 (mean 𝓤 H A (nth 𝓤 H A n Γ)) (⋆ 𝓤 H A (put 𝓤 H A n (‵ ftrue) Γ)))
@@ -48,7 +48,7 @@ module _ {M : Type 1} {𝓤 : URA M} {H : Heap 𝓤} {A : Atoms 𝓤} {K : Type 
         (via 𝓤 (⋆ 𝓤 H A (nth 𝓤 H A n Γ ∷ put 𝓤 H A n (‵ ftrue) Γ)) (push 𝓤 H A (nth 𝓤 H A n Γ) (put 𝓤 H A n (‵ ftrue) Γ)) (s .prf)));
   })
 
-  lowers : K → (n : ℕ) {i : Item 𝓤} → Step K W (put 𝓤 H A n i Γ) G (i ∷ Γ) G
+  pub lowers : K → (n : ℕ) {i : Item 𝓤} → Step K W (put 𝓤 H A n i Γ) G (i ∷ Γ) G
   lowers t n {i} = step (λ s. record {
     prf = via 𝓤 (sep 𝓤 (mean 𝓤 H A i) (⋆ 𝓤 H A Γ)) (pop 𝓤 H A i Γ)
         (via 𝓤 (sep 𝓤 (mean 𝓤 H A i) (⋆ 𝓤 H A (del 𝓤 H A n Γ)))
@@ -58,7 +58,7 @@ module _ {M : Type 1} {𝓤 : URA M} {H : Heap 𝓤} {A : Atoms 𝓤} {K : Type 
 
 module _ {M : Type 1} (𝓤 : URA M) (H : Heap 𝓤) (A : Atoms 𝓤) (W : Given 𝓤 H A) {R : RattleType} (D : Data R) (one : Single (R .mir)) (n b : ℕ) where
   -- the cell of an array is its elements' cells, and these are a cell again
-  apart : (ys : List (R .Denot)) → Real (array D n) ys → ent 𝓤 (H .at fullShare (tyArray (lone (R .mir)) n) b 0 (array D n .val ys)) (sem 𝓤 H A (cells (mem R) ys b 0))
+  pub apart : (ys : List (R .Denot)) → Real (array D n) ys → ent 𝓤 (H .at fullShare (tyArray (lone (R .mir)) n) b 0 (array D n .val ys)) (sem 𝓤 H A (cells (mem R) ys b 0))
   unfolding partOf
   apart ys is =
       qed W (‵ (fat fullShare (tyArray (lone (R .mir)) n) b 0 (array D n .val ys)) ∷ []) ∵ use1 W (‵ (cellAt fullShare (Array R n .mir) (array D n .val ys ∷ []) b 0)) (W .laws .at-raw fullShare (tyArray (lone (R .mir)) n) b 0 (array D n .val ys)) $
@@ -66,7 +66,7 @@ module _ {M : Type 1} (𝓤 : URA M) (H : Heap 𝓤) (A : Atoms 𝓤) (W : Given
       fpack ! (List Val) (λ us. fsep (cellAt fullShare (Array R n .mir) us b 0) (Array R n .own ys us)) (array D n .val ys ∷ []) $
       use1 W (‵ (arr-parts (shares R) n .part fullShare ys b 0)) (array-apart 𝓤 H A W R fullShare one n ys b 0) $ fsplit ! $ drop ! $ by ! (whole-in 𝓤 H A W R ys b 0)
 
-  whole : (ys : List (R .Denot)) → ent 𝓤 (sem 𝓤 H A (Arr (mem R) n .lies ys b 0)) (guard 𝓤 (Real (array D n) ys) (H .at fullShare (tyArray (lone (R .mir)) n) b 0 (array D n .val ys)))
+  pub whole : (ys : List (R .Denot)) → ent 𝓤 (sem 𝓤 H A (Arr (mem R) n .lies ys b 0)) (guard 𝓤 (Real (array D n) ys) (H .at fullShare (tyArray (lone (R .mir)) n) b 0 (array D n .val ys)))
   unfolding partOf
   whole ys =
       qed W (‵ (Arr (mem R) n .lies ys b 0) ∷ []) ∵ fsplit ! $ move ! (1 ∷ []) $ use1 W (‵ (row R fullShare ys b 0)) (whole-out 𝓤 H A W R ys b 0) $ move ! (1 ∷ 0 ∷ []) $ fjoin ! $

@@ -9,3 +9,4 @@ pub mod Calls
 pub mod Counting
 pub mod Lending
 pub mod Arrays
+pub mod Fronts

@@ -48,8 +48,8 @@ enum-known-answer-3 c = search needs
 slice-aggregate-labelled-3 : tie.Need-slice-aggregate-labelled-3
 slice-aggregate-labelled-3 c = search needs
 
-number-of-requires : tie.Need-number-of-requires
-number-of-requires c κs = search needs
+number-requires : tie.Need-number-requires
+number-requires c κs = search needs
 
 labelled-requires-3 : tie.Need-labelled-requires-3
 labelled-requires-3 c κs = search needs
@@ -82,7 +82,7 @@ same-length-5 : tie.Need-same-length-5
 same-length-5 c = search needs
 
 returns-5 : tie.Need-returns-5
-returns-5 c = rw (c .before .before .before .before .before .before .before .answer3 .given .1, sym (c .before .before .before .number-of .ensures)) (c .before .before .labelled3 .ensures)
+returns-5 c = rw (c .before .before .before .before .before .before .before .answer3 .given .1, sym (c .before .before .before .number .ensures)) (c .before .before .labelled3 .ensures)
 
 pub put-answer-spec : {M : Type 1} → statement M
 put-answer-spec =
@@ -102,7 +102,7 @@ put-answer-spec =
     labelled-requires-2
     enum-known-answer-3
     slice-aggregate-labelled-3
-    number-of-requires
+    number-requires
     labelled-requires-3
     same-length
     returns

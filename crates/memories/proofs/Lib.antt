@@ -1,0 +1,3 @@
+-- What the proofs of the lenders share.
+mod Functions
+mod Lenders
