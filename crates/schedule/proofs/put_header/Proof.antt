@@ -47,7 +47,9 @@ same-length : tie.Need-same-length
 same-length c = kept-2 (c .before .before)
 
 returns : tie.Need-returns
-returns c = header-put _ _ _ _ _ (c .before .before .before .before .before .before .before .before .before .before .pre) (c .before .before .before .before .before .before .put-word .ensures) (c .before .before .put-word2 .ensures)
+returns c =
+    let s = c .before .before .before .before .before .before .before .before .before .before .args .s in
+    header-put _ s _ _ _ (c .before .before .before .before .before .before .before .before .before .before .pre) (c .before .before .before .before .before .before .put-word .ensures) (c .before .before .put-word2 .ensures)
 
 pub put-header-spec : {M : Type 1} → statement M
 put-header-spec =
