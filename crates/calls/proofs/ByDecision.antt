@@ -13,8 +13,7 @@ use Rattle.machine.specs.Memory.{marksNeeded, viewOf, fill}
 use Rattle.machine.specs.Places.{blocks}
 use Rattle.machine.specs.Turn.{access, value, store}
 use Rattle.machine.specs.Refusals.{verdict, setupVerdict, lentCases, rowShort}
-use Rattle.machine.specs.Calls.{Outcome, refuseOr, accept, call, setup}
-use Rattle.machine.specs.Worst.{eventOf}
+use Rattle.machine.specs.Calls.{Outcome, refuseOr, accept, call, setup, eventOf}
 use Rattle.machine.specs.Lent.{lent, Leaves}
 use Rattle.machine.specs.declared.Settings.{Settings}
 use Rattle.machine.specs.declared.State.{State}

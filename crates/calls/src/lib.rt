@@ -8,8 +8,7 @@ use machine::Kind;
 use machine::Record;
 use machine::Settings;
 use machine::TaskId;
-ghost use Rattle.machine.specs.Calls.{call, setup};
-ghost use Rattle.machine.specs.Worst.{ask, turn, release};
+ghost use Rattle.machine.specs.Calls.{call, setup, ask, turn, release};
 ghost use Rattle.machine.specs.Lent.{lent, Leaves};
 ghost use Rattle.calls.specs.Made.{outcomeOf};
 

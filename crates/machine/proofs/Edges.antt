@@ -9,9 +9,8 @@ use Rattle.machine.specs.Places.{half, placeNumber}
 use Rattle.machine.specs.Memory.{Memory, count, firstBad}
 use Rattle.machine.specs.Turn.{arrive}
 use Rattle.machine.specs.Answers.{isAccepted}
-use Rattle.machine.specs.Calls.{call, setup, verdictOf, standing}
+use Rattle.machine.specs.Calls.{call, setup, verdictOf, standing, ask, release}
 use Rattle.machine.specs.Listing.{decimal}
-use Rattle.machine.specs.Worst.{ask, release}
 use Rattle.machine.specs.Demands.{SetUp}
 use Rattle.machine.specs.Edges.{FiveNames, NoTurns, LoneTask, TheOtherTask, OneTimePair, TheListing, TwoOut, LastIdentifier, NoRelease, NoReleaseIdle, Edges}
 use Rattle.machine.specs.declared.Settings.{Settings}

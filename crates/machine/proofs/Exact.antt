@@ -13,9 +13,9 @@ use Rattle.machine.specs.Places.{half, blocks}
 use Rattle.machine.specs.Records.{idle, isSeeking}
 use Rattle.machine.specs.Memory.{Memory, marksNeeded, stateOf}
 use Rattle.machine.specs.Answers.{isAccepted}
-use Rattle.machine.specs.Calls.{Outcome, call, setup}
+use Rattle.machine.specs.Calls.{Outcome, call, setup, turn}
 use Rattle.machine.specs.Listing.{largest}
-use Rattle.machine.specs.Worst.{turn, worst}
+use Rattle.machine.specs.Worst.{worst}
 use Rattle.machine.specs.Demands.{SetUp, memoryAfter, historyOf, Seeks, HoldsSome, allAccepted, NeedsBound}
 use Rattle.machine.specs.declared.Settings.{Settings}
 use Rattle.machine.specs.declared.Event.{Event}

@@ -12,8 +12,8 @@ use Rattle.machine.specs.Settings.{permitted}
 use Rattle.machine.specs.Records.{isIdle, isSeeking}
 use Rattle.machine.specs.Memory.{Memory, stateOf, outOf}
 use Rattle.machine.specs.Answers.{isAccepted}
-use Rattle.machine.specs.Calls.{Outcome, nextState, accept, call}
-use Rattle.machine.specs.Worst.{eventOf, each}
+use Rattle.machine.specs.Calls.{Outcome, nextState, accept, call, eventOf}
+use Rattle.machine.specs.Worst.{each}
 use Rattle.machine.specs.declared.Settings.{Settings}
 use Rattle.machine.specs.declared.Point.{Point}
 use Rattle.machine.specs.declared.State.{State}

@@ -10,8 +10,7 @@ use Rattle.machine.specs.Places.{blockNumber}
 use Rattle.machine.specs.Memory.{Memory, markIndex, stateOf, withMark}
 use Rattle.machine.specs.Turn.{pointAccess, value, store, arrive, move, leave, pointTurned}
 use Rattle.machine.specs.Answers.{isAccepted}
-use Rattle.machine.specs.Calls.{Outcome, accept, call}
-use Rattle.machine.specs.Worst.{ask, turn, release}
+use Rattle.machine.specs.Calls.{Outcome, accept, call, ask, turn, release}
 use Rattle.machine.specs.declared.Settings.{Settings}
 use Rattle.machine.specs.declared.Direction.{Direction}
 use Rattle.machine.specs.declared.Direction.the-variants.{Right, Down}

@@ -7,8 +7,7 @@ use lib.Dec.{T}
 use Rattle.machine.specs.Records.{isSeeking}
 use Rattle.machine.specs.Memory.{Memory, stateOf}
 use Rattle.machine.specs.Answers.{isAccepted}
-use Rattle.machine.specs.Calls.{call}
-use Rattle.machine.specs.Worst.{turn}
+use Rattle.machine.specs.Calls.{call, turn}
 use Rattle.machine.specs.Demands.{SetUp, memoryAfter, Seeks}
 use Rattle.machine.specs.declared.Settings.{Settings}
 use Rattle.machine.specs.declared.State.{State}

@@ -15,9 +15,9 @@ use Rattle.machine.specs.Memory.{Memory, stateOf}
 use Rattle.machine.specs.Answers.{isAccepted}
 use Rattle.machine.specs.Turn.{arrive}
 use Rattle.machine.specs.Refusals.{wrongMoment}
-use Rattle.machine.specs.Calls.{Outcome, accept, call, setup}
+use Rattle.machine.specs.Calls.{Outcome, accept, call, setup, turn}
 use Rattle.machine.specs.History.{run, Answered, history, counted, turnsOf}
-use Rattle.machine.specs.Worst.{turn, turns}
+use Rattle.machine.specs.Worst.{turns}
 use Rattle.machine.specs.Demands.{SetUp, memoryAfter, historyOf, used, Seeks, HoldsSome, bound}
 use Rattle.machine.specs.declared.Settings.{Settings}
 use Rattle.machine.specs.declared.Point.the-variants.{WriteX, Scan, WriteMark, ReadX, Clear}

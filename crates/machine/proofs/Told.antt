@@ -14,9 +14,8 @@ use Rattle.machine.specs.Memory.{Memory, stateOf}
 use Rattle.machine.specs.Turn.{pointAccess, value, arrive, move, leave, pointTurned}
 use Rattle.machine.specs.Refusals.{wrongMoment}
 use Rattle.machine.specs.Answers.{isAccepted}
-use Rattle.machine.specs.Calls.{Outcome, standing, answerOf, nextState, call, setup}
+use Rattle.machine.specs.Calls.{Outcome, standing, answerOf, nextState, call, setup, release}
 use Rattle.machine.specs.History.{run, history}
-use Rattle.machine.specs.Worst.{release}
 use Rattle.machine.specs.Demands.{SetUp, memoryAfter, lastAnswer, TrueOf, LastAnswerTrue, Told}
 use Rattle.machine.specs.declared.Settings.{Settings}
 use Rattle.machine.specs.declared.Direction.{Direction}

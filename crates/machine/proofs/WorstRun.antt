@@ -13,8 +13,8 @@ use Rattle.machine.specs.Settings.{permitted, width, own}
 use Rattle.machine.specs.Places.{blockNumber}
 use Rattle.machine.specs.Memory.{Memory, markIndex, stateOf, outOf}
 use Rattle.machine.specs.Turn.{arrive, leave}
-use Rattle.machine.specs.Calls.{nextState, accept, setup}
-use Rattle.machine.specs.Worst.{ask, turns, worstRow, worstRows, worst}
+use Rattle.machine.specs.Calls.{nextState, accept, setup, ask}
+use Rattle.machine.specs.Worst.{turns, worstRow, worstRows, worst}
 use Rattle.machine.specs.Demands.{SetUp}
 use Rattle.machine.specs.declared.Settings.{Settings}
 use Rattle.machine.specs.declared.Direction.the-variants.{Down}

@@ -19,6 +19,19 @@ pub record Outcome : Type 0 where
   pub answer : Answer
   pub memory : Memory
 
+-- ask, turn or release of task p
+abbrev pub eventOf : Kind → ℕ → Event
+eventOf kind p = record { kind = kind; task = record { 0 = p } }
+
+abbrev pub ask : ℕ → Event
+ask p = eventOf Ask p
+
+abbrev pub turn : ℕ → Event
+turn p = eventOf Turn p
+
+abbrev pub release : ℕ → Event
+release p = eventOf Release p
+
 -- the name at (r, c)
 abbrev pub nameAt : Settings → ℕ → ℕ → Name
 nameAt s r c = record { 0 = nameNumber s r c }

@@ -10,10 +10,10 @@ use Rattle.machine.specs.Places.{names, nameNumber}
 use Rattle.machine.specs.Records.{isSeeking, isHolding}
 use Rattle.machine.specs.Memory.{Memory, stateOf}
 use Rattle.machine.specs.Answers.{isAccepted}
-use Rattle.machine.specs.Calls.{nameAt, call, setup}
+use Rattle.machine.specs.Calls.{nameAt, call, setup, turn, release}
 use Rattle.machine.specs.History.{run, Answered, history, turnsOf}
 use Rattle.machine.specs.Listing.{largest}
-use Rattle.machine.specs.Worst.{turn, release, turns, worst}
+use Rattle.machine.specs.Worst.{turns, worst}
 use Rattle.machine.specs.declared.Settings.{Settings}
 use Rattle.machine.specs.declared.State.{State}
 use Rattle.machine.specs.declared.State.the-variants.{Idle, Seeking, Holding}

@@ -13,10 +13,10 @@ use Rattle.machine.specs.Places.{blocks, nameNumber}
 use Rattle.machine.specs.Memory.{Memory, marksNeeded, badRecord, badX, badMark}
 use Rattle.machine.specs.Refusals.{rowShort}
 use Rattle.machine.specs.Answers.{isAccepted}
-use Rattle.machine.specs.Calls.{call, setup}
+use Rattle.machine.specs.Calls.{call, setup, ask, turn, release}
 use Rattle.machine.specs.History.{Answered}
 use Rattle.machine.specs.Listing.{largest, bytesOf, listing}
-use Rattle.machine.specs.Worst.{ask, turn, release, turns}
+use Rattle.machine.specs.Worst.{turns}
 use Rattle.machine.specs.Demands.{SetUp, memoryAfter, historyOf, used, bound}
 use Rattle.machine.specs.declared.Settings.{Settings}
 use Rattle.machine.specs.declared.Event.{Event}

@@ -8,8 +8,7 @@ use Rattle.machine.specs.Places.{blockNumber}
 use Rattle.machine.specs.Records.{idle}
 use Rattle.machine.specs.Memory.{Memory, stateOf, withRecord, withX, withMark}
 use Rattle.machine.specs.Answers.{isAccepted}
-use Rattle.machine.specs.Calls.{Outcome, nameAt, standing, call}
-use Rattle.machine.specs.Worst.{ask, turn, release}
+use Rattle.machine.specs.Calls.{Outcome, nameAt, standing, call, ask, turn, release}
 use Rattle.machine.specs.declared.Settings.{Settings}
 use Rattle.machine.specs.declared.Direction.{Direction}
 use Rattle.machine.specs.declared.Direction.the-variants.{Right, Down}

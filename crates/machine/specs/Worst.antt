@@ -4,22 +4,9 @@
 use mathlib.Core.List.{List, [], _∷_, _++_}
 use Prim.Native.Nat.{ℕ, zero, suc, _+_, _-_}
 use Rattle.machine.specs.Settings.{width}
+use Rattle.machine.specs.Calls.{ask, turn}
 use Rattle.machine.specs.declared.Settings.{Settings}
-use Rattle.machine.specs.declared.Kind.{Kind}
-use Rattle.machine.specs.declared.Kind.the-variants.{Ask, Turn, Release}
 use Rattle.machine.specs.declared.Event.{Event}
-
-abbrev pub eventOf : Kind → ℕ → Event
-eventOf kind p = record { kind = kind; task = record { 0 = p } }
-
-abbrev pub ask : ℕ → Event
-ask p = eventOf Ask p
-
-abbrev pub turn : ℕ → Event
-turn p = eventOf Turn p
-
-abbrev pub release : ℕ → Event
-release p = eventOf Release p
 
 -- so many turns of task p
 abbrev pub turns : ℕ → ℕ → List Event

@@ -187,7 +187,7 @@ impl Settings {
     }
 
     // Where a task comes to (r, c): it holds the edge, and stands at write X on a block.
-    fn arrive(self, r: u8, c: u8) -> State
+    pub fn arrive(self, r: u8, c: u8) -> State
         requires { ⌜ r + c + 1 ≤ self .k ⌝ }
         ensures { λ to. ⌜ to ≡ arrive self r c ⌝ }
     {

@@ -17,7 +17,7 @@ ghost use lib.Dec.{T};
 ghost use Rattle.machine.specs.Settings.{permitted, own};
 ghost use Rattle.machine.specs.Places.{blockNumber};
 ghost use Rattle.machine.specs.Records.{pointInRange, recordInRange, isIdle, isSeeking, isHolding, isOut};
-ghost use Rattle.machine.specs.Turn.{pointAccess, turnAccess, releaseAccess, arrive};
+ghost use Rattle.machine.specs.Turn.{pointAccess, turnAccess, releaseAccess};
 ghost use Rattle.machine.specs.Calls.{standing, freed};
 
 // Whether a seeking task may stand at the point: a scan at one of the block's marks, a clear
@@ -183,23 +183,5 @@ pub fn freed(s: Settings, this: Record) -> Answer
         State::Idle => Answer::Seeks,
         State::Seeking { .. } => Answer::Seeks,
         State::Holding { r, c } => Answer::Freed(name_at(s, r, c)),
-    }
-}
-
-// The record after an accepted ask: at (0, 0), which with k = 1 is the edge.
-pub fn arrived(s: Settings) -> Record
-    ensures { λ to. ⌜ to ≡ record { state = arrive s 0 0 } ⌝ }
-{
-    if 1 == s.k {
-        return Record {
-            state: State::Holding { r: 0, c: 0 },
-        };
-    }
-    Record {
-        state: State::Seeking {
-            r: 0,
-            c: 0,
-            point: Point::WriteX,
-        },
     }
 }

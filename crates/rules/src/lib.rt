@@ -325,7 +325,9 @@ fn ask(s: Settings, seen: View, xs: &mut [u32], marks: &mut [u8], task: TaskId) 
             own: own,
         },
         Verdict::Accepted => {
-            let first = records::arrived(s);
+            let first = Record {
+                state: s.arrive(0, 0),
+            };
             Decided {
                 answer: records::standing(s, first),
                 own: first,

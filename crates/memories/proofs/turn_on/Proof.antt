@@ -19,8 +19,7 @@ use denote.Builtin.{u8, u32}
 use denote.Ref.{RefT}
 use denote.Slice.{Room, sliceVal}
 use denote.Triple.Entry.{Args}
-use Rattle.machine.specs.Calls.{Outcome, call}
-use Rattle.machine.specs.Worst.{turn}
+use Rattle.machine.specs.Calls.{Outcome, call, turn}
 use Rattle.machine.specs.Lent.{lent}
 use Rattle.machine.specs.declared.Record.{Record}
 use Rattle.machine.specs.declared.Settings.{Settings}

@@ -20,15 +20,18 @@ enum-known-why c = search tests
 enum-told : tie.Need-enum-told
 enum-told c = search tests
 
-arrived-requires : tie.Need-arrived-requires
-arrived-requires c κs = search tests
+arrive-requires : tie.Need-arrive-requires
+arrive-requires c κs =
+    let a = c .before .before .before .before .before .before .before .before .args in
+    let ok = accepts (a .s) Kind.Ask (a .task .0) (a .seen) (now (a .xs)) (now (a .marks)) (sym (c .before .before .verdict .ensures) ∙ c .enum-told .given .1) in
+    limits (a .s) (ok .limits) .k-least
 
 standing-requires : tie.Need-standing-requires
 standing-requires c κs =
     let a = c .before .before .before .before .before .before .before .before .before .args in
     let ok = accepts (a .s) Kind.Ask (a .task .0) (a .seen) (now (a .xs)) (now (a .marks)) (sym (c .before .before .before .verdict .ensures) ∙ c .before .enum-told .given .1) in
     let fair = limits (a .s) (ok .limits) in
-    (ok .limits, rw (c .arrived .ensures) (arrive-in-range (a .s) fair 0 0 (fair .k-least)))
+    (ok .limits, rw (c .arrive .ensures) (arrive-in-range (a .s) fair 0 0 (fair .k-least)))
 
 same-length : tie.Need-same-length
 same-length c = search tests
@@ -52,7 +55,7 @@ returns-2 : tie.Need-returns-2
 returns-2 c =
     let a = c .before .before .before .before .before .before .before .before .before .before .args in
     let accepted : verdict (a .s) Kind.Ask (a .task .0) (a .seen) (now (a .xs)) (now (a .marks)) ≡ Verdict.Accepted = sym (c .before .before .before .before .verdict .ensures) ∙ c .before .before .enum-told .given .1 in
-    rw (accepted, c .standing .ensures, c .before .arrived .ensures)
+    rw (accepted, c .standing .ensures, c .before .arrive .ensures)
 
 pub ask-spec : {M : Type 1} → statement M
 ask-spec =
@@ -61,7 +64,7 @@ ask-spec =
     verdict-requires
     enum-known-why
     enum-told
-    arrived-requires
+    arrive-requires
     standing-requires
     same-length
     same-length-2
