@@ -1,20 +1,31 @@
 #!/usr/bin/env python3
-"""Every `pub fn` of every crate has an `ensures` and a row in docs/CONTRACTS.md, every row a function, and every must-fail edit that
-a row names exists. Last line: 'N passed, M failed'."""
+"""The tables in docs/ against the crates:
+- every `pub fn` has an `ensures` and a row in docs/CONTRACTS.md, and every row a function and two must-fail edits or more;
+- no public function of an entry crate (calls, schedule, listing) has a `requires`;
+- every must-fail edit that is named exists, and every edit is named in docs/CONTRACTS.md or docs/MUST_FAIL.md;
+- docs/WALKS.md has a row for every function that is walked by hand, with the length of its proof.
+Last line: 'N passed, M failed'."""
 import glob
 import os
 import re
 import sys
 
 ROOT = os.path.join(os.path.dirname(os.path.abspath(__file__)), '..')
+CRATES = os.path.join(ROOT, 'crates')
+ENTRIES = ('calls', 'schedule', 'listing')
 SIGNATURE = re.compile(r'\bpub\s+(?:extern\s+"C"\s+)?fn\s+(\w+)')
 IMPL = re.compile(r'^impl(?:<[^>]*>)?\s+(\w+)', re.M)
-MODULE = re.compile(r'\bmod\s+(\w+)\s*\{')
+WALKED = re.compile(r'^use Rattle·\w+·proofs\.proofs\.[\w.]+\.Code as ', re.M)
+
+
+def read(*path):
+    with open(os.path.join(ROOT, *path), encoding='utf-8') as file:
+        return file.read()
 
 
 def functions(path, crate):
     """(name, clauses) of each public function of a source file, a method under its type."""
-    text = re.sub(r'//[^\n]*', '', open(path, encoding='utf-8').read())
+    text = re.sub(r'//[^\n]*', '', read(path))
     impls = []
     for m in IMPL.finditer(text):
         end = text.find('\n}', m.end())
@@ -28,38 +39,69 @@ def functions(path, crate):
 
 
 def rows(text):
-    """Each row of the table: the function in its first cell, and the edits named in its last."""
+    """The cells of each row whose first cell is a function."""
     for line in text.split('\n'):
         cells = [c.strip() for c in line.strip().strip('|').split('|')]
         name = re.fullmatch(r'`([\w:]+)`', cells[0])
         if line.startswith('|') and name:
-            yield name.group(1), re.findall(r'`([\w]+/[\w]+)`', cells[-1])
+            yield name.group(1), cells[1:]
+
+
+def contracts(check):
+    found = {}
+    for path in sorted(glob.glob(os.path.join(CRATES, '*', 'src', '**', '*.rt'), recursive=True)):
+        crate = os.path.relpath(path, CRATES).split(os.sep)[0]
+        for name, head in functions(path, crate):
+            found[name] = head
+    table = {name: re.findall(r'`([\w]+/[\w]+)`', cells[-1]) for name, cells in rows(read('docs', 'CONTRACTS.md'))}
+    for name, head in sorted(found.items()):
+        check('ensures' in head, f'{name} has no ensures')
+        check(name in table, f'{name} has no row in docs/CONTRACTS.md')
+        if name.split('::')[0] in ENTRIES:
+            check('requires' not in head, f'{name} is an entry point and has a requires')
+    for name, edits in sorted(table.items()):
+        check(name in found, f'docs/CONTRACTS.md has a row for {name}, which is no public function')
+        check(len(edits) > 1, f'{name}: fewer than two wrong answers are tried')
+    return {edit for edits in table.values() for edit in edits}
+
+
+def edits(check, named):
+    there = {os.path.relpath(path, CRATES).replace('/must-fail/', '/')[:-len('.edit')]
+             for path in glob.glob(os.path.join(CRATES, '*', 'must-fail', '*.edit'))}
+    told = set(re.findall(r'`(\w+)`', read('docs', 'MUST_FAIL.md')))
+    for edit in sorted(named):
+        check(edit in there, f'docs/CONTRACTS.md names {edit}, which is no must-fail edit')
+    for edit in sorted(there):
+        check(edit in named or edit.split('/')[1] in told, f'{edit} is named in no table')
+
+
+def walks(check):
+    length = {}
+    for path in glob.glob(os.path.join(CRATES, '*', 'proofs', '**', 'Proof.antt'), recursive=True):
+        text = read(path)
+        if WALKED.search(text):
+            crate, _, *owner = os.path.relpath(os.path.dirname(path), CRATES).split(os.sep)
+            length['::'.join([crate, *owner])] = text.count('\n')
+    table = {name: cells[0] for name, cells in rows(read('docs', 'WALKS.md'))}
+    for name in sorted(length.keys() | table.keys()):
+        check(name in table, f'{name} is walked by hand and has no row in docs/WALKS.md')
+        check(name in length, f'docs/WALKS.md has a row for {name}, which is not walked by hand')
+        if name in table and name in length:
+            check(table[name] == str(length[name]), f'docs/WALKS.md: the proof of {name} has {length[name]} lines, not {table[name]}')
 
 
 def main():
     passed, wrong = 0, []
-    found = {}
-    for path in sorted(glob.glob(os.path.join(ROOT, 'crates', '*', 'src', '**', '*.rt'), recursive=True)):
-        crate = os.path.relpath(path, os.path.join(ROOT, 'crates')).split(os.sep)[0]
-        for name, head in functions(path, crate):
-            found[name] = 'ensures' in head
-    table = dict(rows(open(os.path.join(ROOT, 'docs', 'CONTRACTS.md'), encoding='utf-8').read()))
-    for name, ensured in sorted(found.items()):
-        if not ensured:
-            wrong.append(f'{name} has no ensures')
-        elif name not in table:
-            wrong.append(f'{name} has no row in docs/CONTRACTS.md')
-        else:
+
+    def check(holds, otherwise):
+        nonlocal passed
+        if holds:
             passed += 1
-    for name, edits in sorted(table.items()):
-        if name not in found:
-            wrong.append(f'docs/CONTRACTS.md has a row for {name}, which is no public function')
-        for edit in edits:
-            crate, label = edit.split('/')
-            if os.path.exists(os.path.join(ROOT, 'crates', crate, 'must-fail', label + '.edit')):
-                passed += 1
-            else:
-                wrong.append(f'{name}: there is no must-fail edit {edit}')
+        else:
+            wrong.append(otherwise)
+
+    edits(check, contracts(check))
+    walks(check)
     for line in wrong:
         print(line)
     print(f'{passed} passed, {len(wrong)} failed')
