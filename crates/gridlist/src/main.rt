@@ -2,7 +2,7 @@
 
 use libc::STDIN_FILENO;
 use libc::STDOUT_FILENO;
-use listing::Listed;
+use machine::Writing;
 ghost use mathlib.Core.Path.{_≡_};
 ghost use lib.ListN.{length};
 
@@ -17,7 +17,7 @@ fn longest() -> [u8; 507949]
 fn print(file: &[u8]) {
     let mut room = longest();
     let listed = listing::list(file, &mut room);
-    if let Listed::Text(length) = listed {
+    if let Writing::Wrote(length) = listed {
         io::write_all(STDOUT_FILENO, &room[..length]);
     }
 }

@@ -8,13 +8,14 @@ use native.Mathlib.Omega.{arith}
 use lib.Dec.{ltb}
 use lib.ListN.{length, drop, length-append}
 use borrow.Author.Tests.{lt-ltb, le-ltb}
-use Rattle.machine.specs.File.{opening}
+use Rattle.machine.specs.File.{opening, Written}
 use Rattle.machine.specs.Listing.{listingBy, listing}
 use Rattle.machine.specs.declared.Opening.{Opening}
 use Rattle.text.specs.Put.{put, Puts}
-use Rattle.listing.specs.declared.Listed.{Listed}
-use Rattle.listing.specs.declared.Listed.the-variants.{Text, ShortRoom}
-use Rattle.listing.specs.Listed.{Left, left, roomBy, roomFor, listed}
+use Rattle.machine.specs.declared.Refusal.the-variants.{ShortRoom}
+use Rattle.machine.specs.declared.Writing.{Writing}
+use Rattle.machine.specs.declared.Writing.the-variants.{Wrote, Refused}
+use Rattle.listing.specs.Listed.{left, roomBy, roomFor, listed}
 use Rattle.listing.proofs.Opened.{events-few}
 
 -- a text put at the start of the room
@@ -23,53 +24,53 @@ unfolding put
 put-first room text = rw (zero-add (length text))
 
 -- what is left where a file opens so
-abbrev leftBy : Opening → List ℕ → List ℕ → Left
+abbrev leftBy : Opening → List ℕ → List ℕ → Written
 leftBy opens file room =
     cond
     (ltb (length room) (roomBy opens))
-    (left ShortRoom room)
-    (left (Text (length (listingBy opens file))) (listingBy opens file ++ drop (length (listingBy opens file)) room))
+    (left (Refused ShortRoom) room)
+    (left (Wrote (length (listingBy opens file))) (listingBy opens file ++ drop (length (listingBy opens file)) room))
 
 module _ (file room : List ℕ) (opens : Opening) (is : opens ≡ opening file) where
   so : leftBy opens file room ≡ listed file room
   so = ap (λ (o : Opening). leftBy o file room) is
 
-  pub room-short : length room < roomBy opens → left ShortRoom room ≡ listed file room
+  pub room-short : length room < roomBy opens → left (Refused ShortRoom) room ≡ listed file room
   room-short short =
-      let e : leftBy opens file room ≡ left ShortRoom room = rw (lt-ltb _ _ short) refl in
+      let e : leftBy opens file room ≡ left (Refused ShortRoom) room = rw (lt-ltb _ _ short) refl in
       sym e ∙ so
 
-  pub text-listed : (to : ℕ) (after : List ℕ) → roomBy opens ≤ length room → Puts room 0 (listingBy opens file) to after → left (Text to) after ≡ listed file room
+  pub text-listed : (to : ℕ) (after : List ℕ) → roomBy opens ≤ length room → Puts room 0 (listingBy opens file) to after → left (Wrote to) after ≡ listed file room
   text-listed to after long puts =
       let text = listingBy opens file in
-      let e : leftBy opens file room ≡ left (Text (length text)) (text ++ drop (length text) room) = rw (le-ltb _ _ long) refl in
+      let e : leftBy opens file room ≡ left (Wrote (length text)) (text ++ drop (length text) room) = rw (le-ltb _ _ long) refl in
       let past : to ≡ length text = puts .past ∙ zero-add (length text) in
       let room-after : after ≡ text ++ drop (length text) room = puts .room-after ∙ put-first room text in
       rw (past, room-after) (sym e ∙ so)
 
 -- two outcomes that the contract of `list` admits are equal
-pub listed-determined : (file room : List ℕ) (answer answer′ : Listed) (after after′ : List ℕ)
+pub listed-determined : (file room : List ℕ) (answer answer′ : Writing) (after after′ : List ℕ)
     → left answer after ≡ listed file room → left answer′ after′ ≡ listed file room → (answer ≡ answer′) × (after ≡ after′)
 listed-determined file room answer answer′ after after′ p q =
     let e : left answer after ≡ left answer′ after′ = p ∙ sym q in
-    (ap (λ (l : Left). l .answer) e, ap (λ (l : Left). l .room) e)
+    (ap (λ (l : Written). l .answer) e, ap (λ (l : Written). l .room) e)
 
 -- ---- what a caller of `list` learns
 
 within : (short : Bool) (room text after : List ℕ) (count : ℕ)
-    → left (Text count) after ≡ cond short (left ShortRoom room) (left (Text (length text)) (text ++ drop (length text) room)) → count ≤ length after
+    → left (Wrote count) after ≡ cond short (left (Refused ShortRoom) room) (left (Wrote (length text)) (text ++ drop (length text) room)) → count ≤ length after
 within true room text after count e =
-    let answer : Text count ≡ ShortRoom = ap (λ (l : Left). l .answer) e in
+    let answer : Wrote count ≡ Refused ShortRoom = ap (λ (l : Written). l .answer) e in
     let z : _≡_ {A = ℕ} 0 1 = cc in
     omega arith
 within false room text after count e =
-    let answer : Text count ≡ Text (length text) = ap (λ (l : Left). l .answer) e in
+    let answer : Wrote count ≡ Wrote (length text) = ap (λ (l : Written). l .answer) e in
     let same : count ≡ length text = cc in
-    let whole : after ≡ text ++ drop (length text) room = ap (λ (l : Left). l .room) e in
+    let whole : after ≡ text ++ drop (length text) room = ap (λ (l : Written). l .room) e in
     rw whole (omega (arith, length-append text (drop (length text) room)))
 
 -- the text lies within the room
-pub text-within : (file room after : List ℕ) (count : ℕ) → left (Text count) after ≡ listed file room → count ≤ length after
+pub text-within : (file room after : List ℕ) (count : ℕ) → left (Wrote count) after ≡ listed file room → count ≤ length after
 text-within file room after count is = within (ltb (length room) (roomFor file)) room (listing file) after count is
 
 -- 45 bytes and 31 for each of 16,384 events are room for any file

@@ -13,6 +13,7 @@ use machine::Refusal;
 use machine::Settings;
 use machine::State;
 use machine::TaskId;
+use machine::Writing;
 use text::copy;
 use text::number;
 ghost use mathlib.Core.Path.{_≡_};
@@ -30,12 +31,6 @@ ghost use Rattle.text.specs.Put.{Puts};
 ghost use Rattle.listing.specs.Writes.{Writes};
 ghost use Rattle.listing.specs.Standing.{Begun, Advanced};
 ghost use Rattle.listing.specs.Listed.{left, listed};
-
-// What listing a file answers: how many bytes the text has, or that the room is too short for it.
-pub enum Listed {
-    Text(usize),
-    ShortRoom,
-}
 
 // Where a run stands: the records, each task's accepted turns since its accepted ask, PEAK and MOST
 // so far, and the index past the lines printed.
@@ -383,24 +378,24 @@ fn put_lines(file: &[u8], s: Settings, count: u16, room: &mut [u8]) -> usize
     run(file, s, count, room, &mut xs, &mut marks)
 }
 
-// Lists a schedule file: the text from the start of the room, and how long it is. Where the room is
-// shorter than the file's longest listing it answers that, and leaves the room as it was.
-pub fn list(file: &[u8], room: &mut [u8]) -> Listed
+// Lists a schedule file: the text from the start of the room, and how long it is. 45 bytes and 31 for
+// each event are always enough; a shorter room is refused, and stays as it was.
+pub fn list(file: &[u8], room: &mut [u8]) -> Writing
     ensures { λ answer. ⌜ left answer (now (room .exit)) ≡ listed (now (file .entry)) (now (room .entry)) ⌝ }
 {
     let opening = schedule::open(file);
     match opening {
         Opening::Refused(why) => {
             if room.len() < 14 {
-                return Listed::ShortRoom;
+                return Writing::Refused(Refusal::ShortRoom);
             }
-            Listed::Text(put_refused(room, why))
+            Writing::Wrote(put_refused(room, why))
         }
         Opening::Opened { settings, count } => {
             if room.len() < 45 + 31 * (count as usize) {
-                return Listed::ShortRoom;
+                return Writing::Refused(Refusal::ShortRoom);
             }
-            Listed::Text(put_lines(file, settings, count, room))
+            Writing::Wrote(put_lines(file, settings, count, room))
         }
     }
 }

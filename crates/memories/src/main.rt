@@ -1,6 +1,6 @@
 // Calls on memories of any contents. The input is a row of cases: what is called, the settings, the
-// task, and the rows to lend, of any length and contents. Each call is made on just these rows, and the
-// answer and every lent element afterwards are printed.
+// task, and the rows to lend: up to 256 records, 128 X numbers and 30,740 marks, of any contents. Each
+// call is made on just these rows, and the answer and every lent element afterwards are printed.
 
 use calls::Call;
 use calls::Made;

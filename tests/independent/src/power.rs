@@ -1,8 +1,10 @@
-//! The command `power`: the generated schedules tell each of 01's shortcuts from the grid.
+//! The command `power`: the generated schedules tell each of 01's shortcuts from the grid, and so do the
+//! calls on arbitrary memories.
 
 use std::collections::HashMap;
 use std::thread;
 
+use crate::call_cases::{self, CallCase};
 use crate::generate::{fixed_cases, random_case, Case};
 use crate::grid::{Grid, Rules};
 use crate::listing::listing;
@@ -66,8 +68,18 @@ fn first_difference(rules: &dyn Rules, case: &Case) -> String {
     }
 }
 
+/// Under how many of the calls the shortcut answers or leaves something else than the grid.
+fn calls_told(rules: &dyn Rules, cases: &[CallCase]) -> usize {
+    let other = |case: &&CallCase| {
+        let again = CallCase::new(rules, case.tries, case.settings, case.before.clone(), case.call);
+        again != **case
+    };
+    cases.iter().filter(other).count()
+}
+
 /// Prints one line a shortcut (how many listings differ from the grid's, in how many of these two
-/// tasks hold one name, and the shortest), and answers how many were told from the grid and how many not.
+/// tasks hold one name, and the shortest), then one with the calls that differ, and answers how many
+/// were told from the grid and how many not, by schedules and by calls.
 pub fn run(seed: u64, count: u64) -> (usize, usize) {
     let random = (0..count).map(|index| random_case(seed, index));
     let with_listing = |case: Case| {
@@ -92,5 +104,16 @@ pub fn run(seed: u64, count: u64) -> (usize, usize) {
         let label = &case.label;
         println!("{name}: {differing} differ, {clashing} clash; shortest: {label}: {difference}");
     }
-    (passed, SHORTCUTS.len() - passed)
+    let calls = call_cases::cases(seed);
+    println!("{} calls on arbitrary memories, under the grid and under each shortcut", calls.len());
+    for (name, rules) in SHORTCUTS {
+        match calls_told(rules, &calls) {
+            0 => println!("{name}: NOT TOLD from the grid by calls"),
+            differing => {
+                passed += 1;
+                println!("{name}: {differing} calls differ");
+            }
+        }
+    }
+    (passed, 2 * SHORTCUTS.len() - passed)
 }
