@@ -13,7 +13,7 @@ use Rattle.machine.specs.Answers.{codeOf, isAccepted}
 use Rattle.machine.specs.Calls.{call}
 use Rattle.machine.specs.File.{codeAt, taskAt, eventAt, anyBelow, opening}
 use Rattle.machine.specs.Listing.{gridLine, eventLine, endLine, largest, listing}
-use Rattle.machine.specs.Demands.{memoryAfter, used}
+use Rattle.machine.specs.Demands.{memoryAfter, used, bound}
 use Rattle.machine.specs.declared.Settings.{Settings}
 use Rattle.machine.specs.declared.Name.{Name}
 use Rattle.machine.specs.declared.Kind.{Kind}
@@ -108,3 +108,7 @@ EndCountsOne =
 -- the turns counted here are those that demand 3 bounds
 abbrev pub UsedCounted : Type 0
 UsedCounted = (s : Settings) (file : List ℕ) (n p : ℕ) → used s largest (eventsOf file n) p ≡ turnsSince s file n p
+
+-- and so MOST is within that bound
+abbrev pub MostWithinBound : Type 0
+MostWithinBound = (s : Settings) (file : List ℕ) (n holders peak most : ℕ) → EndCounts s file n holders peak most → most ≤ bound s
