@@ -229,24 +229,6 @@ module _ (s : Settings) (file : List ℕ) where
   most-kept zero = none-yet (Completes s file) (turnsAt s file)
   most-kept (suc n) = most-more n (standing n .most) (answered n) (sym (answer-kept n)) (most-kept n)
 
--- ---- the theorems
-
-pub end-line-counted : EndLineCounted
-end-line-counted file s n opened = record {
-  holders = holdersAt s file n;
-  peak = progress s file n .peak;
-  most = progress s file n .most;
-  counts = record { at-the-end = refl; after-any = peak-kept s file n; of-completed = most-kept s file n };
-  printed = ap (λ (o : Opening). listingBy o file) opened ∙ rw (lines-kept s file n, holders-kept s file n);
-}
-
-pub end-counts-one : EndCountsOne
-end-counts-one s file n holders peak most holders′ peak′ most′ c d = (
-  c .at-the-end ∙ sym (d .at-the-end),
-  greatest-one (λ i. Unit {0}) (λ i. holdersAt s file (suc i)) (c .after-any) (d .after-any),
-  greatest-one (Completes s file) (turnsAt s file) (c .of-completed) (d .of-completed),
-)
-
 -- ---- MOST within the bound
 
 module _ (s : Settings) (name : Name) where
@@ -281,6 +263,24 @@ completed-within s file i (name, e) =
     rw (run-append s (eventsOf file i) (eventAt file i ∷ []) (setup s largest .memory)) (held-after s name (eventAt file i) (memoryAt s file i) e) in
     rw (sym (used-counted s file (suc i) p))
     (served-within s largest (eventsOf file (suc i)) (setup-takes s (tests .lent .limits)) p (tests .task) .holding holds)
+
+-- ---- the theorems
+
+pub end-line-counted : EndLineCounted
+end-line-counted file s n opened = record {
+  holders = holdersAt s file n;
+  peak = progress s file n .peak;
+  most = progress s file n .most;
+  counts = record { at-the-end = refl; after-any = peak-kept s file n; of-completed = most-kept s file n };
+  printed = ap (λ (o : Opening). listingBy o file) opened ∙ rw (lines-kept s file n, holders-kept s file n);
+}
+
+pub end-counts-one : EndCountsOne
+end-counts-one s file n holders peak most holders′ peak′ most′ c d = (
+  c .at-the-end ∙ sym (d .at-the-end),
+  greatest-one (λ i. Unit {0}) (λ i. holdersAt s file (suc i)) (c .after-any) (d .after-any),
+  greatest-one (Completes s file) (turnsAt s file) (c .of-completed) (d .of-completed),
+)
 
 pub most-within-bound : MostWithinBound
 most-within-bound s file n holders peak most counts = go (counts .of-completed .reached)

@@ -160,6 +160,7 @@ module _ (s : Settings) (p : ℕ) (m : Memory) where
       go (yes e) = subst (λ (state : State). Arrives s p r c left (standsAt s p state left)) (arrive-edge s r c e) (edge e)
       go (no d) = subst (λ (state : State). Arrives s p r c left (standsAt s p state left)) (arrive-block s r c d) (block (omega arith))
 
+  -- and so does one that moves out of a block
   going : (r c : ℕ) (direction : Direction) (left : Memory) → r + c + 2 ≤ s .k
       → Moves s p r c direction left (standsAt s p (move s r c direction) left)
   going r c Right left on = arrival r (c + 1) left (omega arith)
