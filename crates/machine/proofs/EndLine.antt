@@ -1,6 +1,7 @@
 -- The listing's numbers are the history's own counts: the memory that a run stands at is that of the history, its list of turns has each task's
 -- turns since its last accepted ask, and each maximum that it keeps is the greatest of the positions so far.
 use mathlib.Core.Path.{_≡_, refl, sym, ap, _∙_}
+use mathlib.Core.Logic.{_⊎_, inl, inr}
 use mathlib.Core.Bool.{Bool, true, false, not, cond, _&&_, _||_}
 use mathlib.Core.List.{List, [], _∷_, _++_}
 use Prim.Native.Nat.{ℕ, zero, suc, _≤_, _<_, max}
@@ -13,23 +14,31 @@ use borrow.Author.Tests.{eqb-true, eqb-false, lt-ltb, le-ltb}
 use Rattle.machine.specs.Records.{isHolding}
 use Rattle.machine.specs.Memory.{Memory, stateOf, tick, count, holdersOf}
 use Rattle.machine.specs.Answers.{isAccepted}
-use Rattle.machine.specs.Calls.{call, setup}
+use Rattle.machine.specs.Calls.{Outcome, nameAt, answerOf, call, setup}
+use Rattle.machine.specs.Calls as calls
 use Rattle.machine.specs.History.{Answered, counted, turnsOf}
 use Rattle.machine.specs.File.{codeAt, taskAt, eventAt, anyBelow}
 use Rattle.machine.specs.Listing.{largest, Progress, turnsAfter, completed, progress, listingBy}
-use Rattle.machine.specs.Demands.{memoryAfter, historyOf, used}
-use Rattle.machine.specs.EndLine.{eventsOf, memoryAt, holdersAt, answerAt, Completes, takenAt, turnsSince, turnsAt, linesOf, Greatest}
-use Rattle.machine.specs.EndLine.{EndLineCounted, EndCountsOne, UsedCounted}
+use Rattle.machine.specs.Demands.{memoryAfter, historyOf, used, HoldsSome, bound}
+use Rattle.machine.specs.EndLine.{eventsOf, memoryAt, holdersAt, answerAt, Completes, takenAt, turnsSince, turnsAt, linesOf}
+use Rattle.machine.specs.EndLine.{Attained, NoneCounts, Greatest, EndLineCounted, EndCountsOne, UsedCounted, MostWithinBound}
 use Rattle.machine.specs.declared.Settings.{Settings}
+use Rattle.machine.specs.declared.Name.{Name}
+use Rattle.machine.specs.declared.State.{State}
+use Rattle.machine.specs.declared.State.the-variants.{Idle, Seeking, Holding}
+use Rattle.machine.specs.declared.Kind.{Kind}
 use Rattle.machine.specs.declared.Kind.the-variants.{Ask, Turn, Release}
 use Rattle.machine.specs.declared.Event.{Event}
 use Rattle.machine.specs.declared.Answer.{Answer}
 use Rattle.machine.specs.declared.Opening.{Opening}
+use Rattle.machine.specs.OneAccess.{AcceptedIn}
 use Rattle.machine.proofs.Limits.{limits}
 use Rattle.machine.proofs.Searching.{count-same, count-none}
-use Rattle.machine.proofs.Passing.{passed}
+use Rattle.machine.proofs.Passing.{passed, by-the-rules}
+use Rattle.machine.proofs.Effects.{only-the-register-written-changes}
 use Rattle.machine.proofs.Histories.{run-append, history-append}
 use Rattle.machine.proofs.Served.{turns-append}
+use Rattle.machine.proofs.Demand3.{served-within, setup-takes}
 use Rattle.machine.proofs.Greatest.{none-yet, one-skipped, one-counted, greatest-one}
 
 -- ---- counted since
@@ -220,6 +229,41 @@ module _ (s : Settings) (file : List ℕ) where
   most-kept zero = none-yet (Completes s file) (turnsAt s file)
   most-kept (suc n) = most-more n (standing n .most) (answered n) (sym (answer-kept n)) (most-kept n)
 
+-- ---- MOST within the bound
+
+module _ (s : Settings) (name : Name) where
+  not-held : (answer : Answer) → completed answer 1 ≡ 0 → answer ≡ Answer.Holds name → ⊥
+  not-held answer none e = let one = ap (λ (other : Answer). completed other 1) e in omega arith
+
+  -- who is answered that it holds does so in the record that the call leaves
+  standing-held : (after : State) → calls.standing s after ≡ Answer.Holds name → T (isHolding after)
+  standing-held Idle e = absurd (not-held Answer.Seeks refl e)
+  standing-held (Seeking r c point) e = absurd (not-held Answer.Seeks refl e)
+  standing-held (Holding r c) e = tt
+
+  answer-held : (kind : Kind) (before after : State) → answerOf s kind before after ≡ Answer.Holds name → T (isHolding after)
+  answer-held Ask before after e = standing-held after e
+  answer-held Turn before after e = standing-held after e
+  answer-held Release Idle after e = absurd (not-held Answer.Seeks refl e)
+  answer-held Release (Seeking r c point) after e = absurd (not-held Answer.Seeks refl e)
+  answer-held Release (Holding r c) after e = absurd (not-held (Answer.Freed (nameAt s r c)) refl e)
+
+  held-after : (event : Event) (m : Memory) → call s event m .answer ≡ Answer.Holds name → HoldsSome (call s event m .memory) (event .task .0)
+  held-after event m e =
+      let accepted : AcceptedIn s event m = rw e tt in
+      rw (only-the-register-written-changes s event m accepted .own)
+      (answer-held (event .kind) (stateOf m (event .task .0)) _ (sym (ap (λ (o : Outcome). o .answer) (by-the-rules s event m accepted)) ∙ e))
+
+-- an acquisition that is completed took no more turns than demand 3 allows
+completed-within : (s : Settings) (file : List ℕ) (i : ℕ) → Completes s file i → turnsAt s file i ≤ bound s
+completed-within s file i (name, e) =
+    let p : ℕ = taskAt file i .0 in
+    let tests = passed s (eventAt file i) (memoryAt s file i) (rw e tt) in
+    let holds : HoldsSome (memoryAt s file (suc i)) p =
+    rw (run-append s (eventsOf file i) (eventAt file i ∷ []) (setup s largest .memory)) (held-after s name (eventAt file i) (memoryAt s file i) e) in
+    rw (sym (used-counted s file (suc i) p))
+    (served-within s largest (eventsOf file (suc i)) (setup-takes s (tests .lent .limits)) p (tests .task) .holding holds)
+
 -- ---- the theorems
 
 pub end-line-counted : EndLineCounted
@@ -237,3 +281,10 @@ end-counts-one s file n holders peak most holders′ peak′ most′ c d = (
   greatest-one (λ i. Unit {0}) (λ i. holdersAt s file (suc i)) (c .after-any) (d .after-any),
   greatest-one (Completes s file) (turnsAt s file) (c .of-completed) (d .of-completed),
 )
+
+pub most-within-bound : MostWithinBound
+most-within-bound s file n holders peak most counts = go (counts .of-completed .reached)
+  where
+    go : Attained n (Completes s file) (turnsAt s file) most ⊎ (NoneCounts n (Completes s file) × (most ≡ 0)) → most ≤ bound s
+    go (inl (i, l, c, e)) = rw (sym e) (completed-within s file i c)
+    go (inr (none, e)) = omega arith

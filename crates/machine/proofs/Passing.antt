@@ -5,16 +5,17 @@ use mathlib.Core.Bool.{Bool, true, false}
 use Prim.Native.Nat.{ℕ, _≤_, _<_}
 use native.Mathlib.Omega.{arith}
 use lib.Dec.{T, not-T}
-use lib.ListN.{length}
+use lib.ListN.{length, getD}
 use Rattle.machine.specs.Settings.{permitted}
 use Rattle.machine.specs.Places.{blocks}
 use Rattle.machine.specs.Records.{recordInRange}
-use Rattle.machine.specs.Memory.{Memory, marksNeeded, recordOf, stateOf}
+use Rattle.machine.specs.Memory.{Memory, marksNeeded, recordOf, stateOf, markInRange}
 use Rattle.machine.specs.Answers.{isAccepted}
 use Rattle.machine.specs.Calls.{Outcome, refuseOr, verdictOf, call}
 use Rattle.machine.specs.declared.Settings.{Settings}
+use Rattle.machine.specs.declared.Kind.the-variants.{Release}
 use Rattle.machine.specs.declared.Event.{Event}
-use Rattle.machine.specs.declared.Row.the-variants.{Records}
+use Rattle.machine.specs.declared.Row.the-variants.{Records, Marks}
 use Rattle.machine.specs.declared.Verdict.{Verdict}
 use Rattle.machine.specs.Refusing.{SomeRowShort, NotTheMoment}
 use Rattle.machine.specs.OneAccess.{AcceptedIn}
@@ -39,6 +40,8 @@ pub record Passed (s : Settings) (event : Event) (m : Memory) : Type 0 where
   pub lent : Lendable s m
   pub task : event .task .0 < s .n
   pub in-range : T (recordInRange s (recordOf m (event .task .0)))
+  pub marks : (index : ℕ) → index < marksNeeded s → T (markInRange (getD (m .marks) index 0))
+  pub releases : event .kind ≡ Release → s .mode ≡ 0 → ⊥
   pub moment : NotTheMoment (event .kind) (stateOf m (event .task .0)) → ⊥
 
 pub passed : (s : Settings) (event : Event) (m : Memory) → AcceptedIn s event m → Passed s event m
@@ -51,6 +54,9 @@ passed s event m t =
       lent = lendable s m (none .0) (none .1 .0);
       task = low;
       in-range = stable (recordInRange s (recordOf m p)) (λ bad. none .1 .1 .0 (Records, p, (low, not-T (recordInRange s (recordOf m p)) bad)));
+      marks = λ index l. stable (markInRange (getD (m .marks) index 0)) (λ bad.
+          none .1 .1 .0 (Marks, index, (l, not-T (markInRange (getD (m .marks) index 0)) bad)));
+      releases = λ release once. none .1 .1 .1 .1 .0 (release, once);
       moment = none .1 .1 .1 .1 .1 .0;
     }
 

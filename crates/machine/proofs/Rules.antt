@@ -1,151 +1,262 @@
--- The definitions, which say both modes at once, follow 01's rules in each.
-use mathlib.Core.Path.{_≡_, sym, ap, _∙_}
-use Prim.Native.Nat.{ℕ, _+_, _*_, _<_}
+-- The definitions, which say both modes at once, follow 01's rules in each, and the lines of these rules leave no accepted call out.
+use mathlib.Core.Path.{_≡_, refl, sym, ap, subst, _∙_}
+use mathlib.Core.Logic.{_⊎_, inl, inr}
+use Prim.Native.Nat.{ℕ, _+_, _*_, _≤_, _<_}
+use native.Mathlib.Decide.{ℕ-discrete}
 use native.Mathlib.Omega.{arith}
-use lib.Dec.{T}
+use lib.Dec.{T, leb→le, ltb→lt, eqb→eq}
 use lib.ListN.{getD}
-use borrow.Author.Tests.{eq-eqb, ne-eqb, le-leb, lt-leb}
+use borrow.Author.Tests.{le-leb, lt-leb}
 use Rattle.machine.specs.Settings.{width, own}
 use Rattle.machine.specs.Places.{blockNumber}
+use Rattle.machine.specs.Records.{pointInRange, stateInRange}
 use Rattle.machine.specs.Memory.{Memory, markIndex, stateOf, withMark}
 use Rattle.machine.specs.Turn.{pointAccess, value, store, arrive, move, leave, pointTurned}
-use Rattle.machine.specs.Answers.{isAccepted}
-use Rattle.machine.specs.Calls.{Outcome, accept, call, ask, turn, release}
+use Rattle.machine.specs.Calls.{Outcome, accept, call, eventOf, ask, turn, release}
 use Rattle.machine.specs.declared.Settings.{Settings}
 use Rattle.machine.specs.declared.Direction.{Direction}
 use Rattle.machine.specs.declared.Direction.the-variants.{Right, Down}
 use Rattle.machine.specs.declared.Point.{Point}
 use Rattle.machine.specs.declared.Point.the-variants.{WriteX, Scan, WriteMark, ReadX, Clear}
 use Rattle.machine.specs.declared.State.{State}
-use Rattle.machine.specs.declared.State.the-variants.{Seeking, Holding}
-use Rattle.machine.specs.declared.Kind.the-variants.{Turn, Release}
+use Rattle.machine.specs.declared.State.the-variants.{Idle, Seeking, Holding}
+use Rattle.machine.specs.declared.Kind.{Kind}
+use Rattle.machine.specs.declared.Kind.the-variants.{Ask, Turn, Release}
+use Rattle.machine.specs.Refusing.{NotTheMoment}
+use Rattle.machine.specs.OneAccess.{AcceptedIn}
+use Rattle.machine.specs.Rules.{standsAt, freesAt, SeeksAt, xOf, markOf, longMark, oneMark, Arrives, edge, block, Moves}
+use Rattle.machine.specs.Rules.{Says, asks, write-x, long-scan-marked, long-scan-next, long-scan-last, once-scan-marked, once-scan-clear}
+use Rattle.machine.specs.Rules.{long-write-mark, once-write-mark, read-x-own, long-read-x-other, once-read-x-other, clear}
+use Rattle.machine.specs.Rules.{release-block, release-edge, EachFollowsTheRules, EachSpokenOf}
+use Rattle.machine.proofs.Limits.{Limits, limits}
 use Rattle.machine.proofs.Turning as turning
-use Rattle.machine.specs.Rules.{standsAt, freesAt, Arrives, Moves, TurnAt, xOf, TurnRules, markOf, LongLivedRules, OneTimeRules, EachFollowsTheRules}
-use Rattle.machine.proofs.Passing.{by-the-rules}
+use Rattle.machine.proofs.Arriving.{arrive-edge, arrive-block, leave-at-once, leave-clearing}
+use Rattle.machine.proofs.Ranges.{seeks-on-block, seeks-at-point}
+use Rattle.machine.proofs.Seen.{two-modes, width-one-time, width-long-lived, own-one-time, own-long-lived, mark-below}
+use Rattle.machine.proofs.Passing.{Passed, passed, by-the-rules}
 
 -- ---- in either mode
 
 module _ (s : Settings) (p : ℕ) where
-  arrives : (r c : ℕ) (outcome : Outcome) (m : Memory) → outcome ≡ standsAt s p (arrive s r c) m → Arrives s p r c outcome m
-  arrives r c outcome m e = record {
-    edge = λ at. e ∙ rw (eq-eqb (r + c + 1) (s .k) at);
-    block = λ on. e ∙ rw (ne-eqb (r + c + 1) (s .k) (let off : r + c + 1 ≡ s .k → ⊥ = λ at. omega arith in off));
-  }
+  -- a line of an arrival says where the task comes to
+  arrives-so : (r c : ℕ) (m : Memory) (to : Outcome) → Arrives s p r c m to → standsAt s p (arrive s r c) m ≡ to
+  arrives-so r c m to (edge at) = ap (λ (state : State). standsAt s p state m) (sym (arrive-edge s r c at))
+  arrives-so r c m to (block on) = ap (λ (state : State). standsAt s p state m) (sym (arrive-block s r c (λ at. omega arith)))
 
-  moves : (r c : ℕ) (direction : Direction) (outcome : Outcome) (m : Memory) → outcome ≡ standsAt s p (move s r c direction) m → Moves s p r c direction outcome m
-  moves r c Right outcome m e = arrives r (c + 1) outcome m e
-  moves r c Down outcome m e = arrives (r + 1) c outcome m e
+  moves-so : (r c : ℕ) (direction : Direction) (m : Memory) (to : Outcome) → Moves s p r c direction m to → standsAt s p (move s r c direction) m ≡ to
+  moves-so r c Right m to moves = arrives-so r (c + 1) m to moves
+  moves-so r c Down m to moves = arrives-so (r + 1) c m to moves
 
   -- a turn at a point: the register is written, and the value read makes the next state
-  turned-at : (m : Memory) (r c : ℕ) (point : Point) → TurnAt s p m r c point
+  turned-at : (m : Memory) (r c : ℕ) (point : Point) → AcceptedIn s (turn p) m → SeeksAt s p m r c point
       → call s (turn p) m ≡ standsAt s p (pointTurned s p r c point (value s (pointAccess s p r c point) m)) (store s (pointAccess s p r c point) m)
-  turned-at m r c point at = by-the-rules s (turn p) m (at .accepted) ∙ ap (λ (state : State). accept s Turn p state m) (at .stands)
+  turned-at m r c point t at = by-the-rules s (turn p) m t ∙ ap (λ (state : State). accept s Turn p state m) (at .stands)
 
   -- where the value read decides
-  turned-to : (m : Memory) (r c : ℕ) (point : Point) (to : State) → TurnAt s p m r c point → to ≡ pointTurned s p r c point (value s (pointAccess s p r c point) m)
+  turned-to : (m : Memory) (r c : ℕ) (point : Point) (to : State) → AcceptedIn s (turn p) m → SeeksAt s p m r c point
+      → to ≡ pointTurned s p r c point (value s (pointAccess s p r c point) m)
       → call s (turn p) m ≡ standsAt s p to (store s (pointAccess s p r c point) m)
-  turned-to m r c point to at e = turned-at m r c point at ∙ ap (λ (state : State). standsAt s p state (store s (pointAccess s p r c point) m)) (sym e)
-
-  turn-rules : (m : Memory) (r c : ℕ) → TurnRules s p m r c
-  turn-rules m r c = record {
-    write-x = turned-at m r c WriteX;
-    read-x-own = λ at e. turned-to m r c ReadX (Holding r c) at (turning.reads-own s p r c (xOf s m r c) e);
-  }
+  turned-to m r c point to t at e =
+      turned-at m r c point t at ∙ ap (λ (state : State). standsAt s p state (store s (pointAccess s p r c point) m)) (sym e)
 
 -- ---- mode 1
 
 module _ (s : Settings) (long : s .mode ≡ 1) (p : ℕ) (m : Memory) (r c : ℕ) where
-  not-one-time : s .mode ≡ 0 → ⊥
-  not-one-time e = omega arith
-
-  width-long : width s ≡ s .n
-  width-long = rw (ne-eqb (s .mode) 0 not-one-time)
-
-  own-long : own s p ≡ p
-  own-long = rw (ne-eqb (s .mode) 0 not-one-time)
-
   -- mark q of the block
   mark-long : (q : ℕ) → markIndex s (blockNumber s r c) q ≡ markOf s r c q
-  mark-long q = ap (λ (w : ℕ). blockNumber s r c * w + q) width-long
+  mark-long q = ap (λ (w : ℕ). blockNumber s r c * w + q) (width-long-lived s long)
 
   own-mark-long : markIndex s (blockNumber s r c) (own s p) ≡ markOf s r c p
-  own-mark-long = ap (λ (q : ℕ). markIndex s (blockNumber s r c) q) own-long ∙ mark-long p
+  own-mark-long = ap (λ (q : ℕ). markIndex s (blockNumber s r c) q) (own-long-lived s p long) ∙ mark-long p
 
-  mark-read : (h v : ℕ) → getD (m .marks) (markOf s r c h) 0 ≡ v → value s (pointAccess s p r c (Scan h)) m ≡ v
+  mark-read : (h v : ℕ) → longMark s m r c h ≡ v → value s (pointAccess s p r c (Scan h)) m ≡ v
   mark-read h v e = ap (λ (i : ℕ). getD (m .marks) i 0) (mark-long h) ∙ e
 
   leave-long : (direction : Direction) → Seeking r c (Clear direction) ≡ leave s r c direction
-  leave-long direction = rw (ne-eqb (s .mode) 0 not-one-time)
+  leave-long direction = leave-clearing s r c direction (λ e. omega arith)
 
-  not-marked : (h : ℕ) → getD (m .marks) (markOf s r c h) 0 ≡ 0 → value s (pointAccess s p r c (Scan h)) m ≡ 1 → ⊥
+  not-marked : (h : ℕ) → longMark s m r c h ≡ 0 → value s (pointAccess s p r c (Scan h)) m ≡ 1 → ⊥
   not-marked h e f = let z = mark-read h 0 e in omega arith
 
   -- a release of a task that holds (r, c)
-  released : stateOf m p ≡ Holding r c → T (isAccepted (call s (release p) m .answer)) → call s (release p) m ≡ accept s Release p (Holding r c) m
-  released held t = by-the-rules s (release p) m t ∙ ap (λ (state : State). accept s Release p state m) held
-
-  long-lived-rules : LongLivedRules s p m r c
-  long-lived-rules = record {
-    scan-marked = λ h at e. turned-to s p m r c (Scan h) (Seeking r c (Clear Right)) at (leave-long Right ∙ turning.scan-marked s p r c h _ (mark-read h 1 e));
-    scan-next = λ h at e low.
-        turned-to s p m r c (Scan h) (Seeking r c (Scan (h + 1))) at
-        (turning.scan-on s p r c h _ (not-marked h e) (λ last. let w = width-long in omega arith));
-    scan-last = λ h at e last. turned-to s p m r c (Scan h) (Seeking r c WriteMark) at (turning.scan-done s p r c h _ (not-marked h e) (last ∙ sym width-long));
-    write-mark = λ at.
-        turned-at s p m r c WriteMark at ∙ ap (λ (i : ℕ). standsAt s p (Seeking r c ReadX) (withMark i 1 m)) own-mark-long;
-    read-x-other = λ at other. turned-to s p m r c ReadX (Seeking r c (Clear Down)) at (leave-long Down ∙ turning.reads-other s p r c _ other);
-    clear = λ direction at.
-        moves s p r c direction (call s (turn p) m) (withMark (markOf s r c p) 0 m)
-        (turned-at s p m r c (Clear direction) at ∙ ap (λ (i : ℕ). standsAt s p (move s r c direction) (withMark i 0 m)) own-mark-long);
-    release-block = λ held t on.
-        released held t ∙ rw (le-leb (r + c + 2) (s .k) on) (ap (λ (i : ℕ). freesAt s p r c (withMark i 0 m)) own-mark-long);
-    release-edge = λ held t edge. released held t ∙ rw (lt-leb (r + c + 2) (s .k) (let l : s .k < r + c + 2 = omega arith in l));
-  }
+  released : AcceptedIn s (release p) m → stateOf m p ≡ Holding r c → call s (release p) m ≡ accept s Release p (Holding r c) m
+  released t held = by-the-rules s (release p) m t ∙ ap (λ (state : State). accept s Release p state m) held
 
 -- ---- mode 0
 
 module _ (s : Settings) (once : s .mode ≡ 0) (p : ℕ) (m : Memory) (r c : ℕ) where
-  width-once : width s ≡ 1
-  width-once = rw (eq-eqb (s .mode) 0 once)
-
-  own-once : own s p ≡ 0
-  own-once = rw (eq-eqb (s .mode) 0 once)
-
   -- the block's one mark
   mark-once : markIndex s (blockNumber s r c) 0 ≡ blockNumber s r c
-  mark-once = ap (λ (w : ℕ). blockNumber s r c * w + 0) width-once ∙ omega arith
+  mark-once = ap (λ (w : ℕ). blockNumber s r c * w + 0) (width-one-time s once) ∙ omega arith
 
   own-mark-once : markIndex s (blockNumber s r c) (own s p) ≡ blockNumber s r c
-  own-mark-once = ap (λ (q : ℕ). markIndex s (blockNumber s r c) q) own-once ∙ mark-once
+  own-mark-once = ap (λ (q : ℕ). markIndex s (blockNumber s r c) q) (own-one-time s p once) ∙ mark-once
 
-  mark-read-once : (v : ℕ) → getD (m .marks) (blockNumber s r c) 0 ≡ v → value s (pointAccess s p r c (Scan 0)) m ≡ v
+  mark-read-once : (v : ℕ) → oneMark s m r c ≡ v → value s (pointAccess s p r c (Scan 0)) m ≡ v
   mark-read-once v e = ap (λ (i : ℕ). getD (m .marks) i 0) mark-once ∙ e
 
-  leave-once : (direction : Direction) → move s r c direction ≡ leave s r c direction
-  leave-once direction = rw (eq-eqb (s .mode) 0 once)
-
-  not-marked-once : getD (m .marks) (blockNumber s r c) 0 ≡ 0 → value s (pointAccess s p r c (Scan 0)) m ≡ 1 → ⊥
+  not-marked-once : oneMark s m r c ≡ 0 → value s (pointAccess s p r c (Scan 0)) m ≡ 1 → ⊥
   not-marked-once e f = let z = mark-read-once 0 e in omega arith
 
-  one-time-rules : OneTimeRules s p m r c
-  one-time-rules = record {
-    scan-marked = λ at e.
-        moves s p r c Right (call s (turn p) m) m
-        (turned-to s p m r c (Scan 0) (move s r c Right) at (leave-once Right ∙ turning.scan-marked s p r c 0 _ (mark-read-once 1 e)));
-    scan-clear = λ at e.
-        turned-to s p m r c (Scan 0) (Seeking r c WriteMark) at
-        (turning.scan-done s p r c 0 _ (not-marked-once e) (let w = width-once in omega arith));
-    write-mark = λ at.
-        turned-at s p m r c WriteMark at ∙ ap (λ (i : ℕ). standsAt s p (Seeking r c ReadX) (withMark i 1 m)) own-mark-once;
-    read-x-other = λ at other.
-        moves s p r c Down (call s (turn p) m) m
-        (turned-to s p m r c ReadX (move s r c Down) at (leave-once Down ∙ turning.reads-other s p r c _ other));
-  }
+-- ---- what a line says is the outcome
 
 pub follows-the-rules : EachFollowsTheRules
-follows-the-rules s p m = record {
-  asks = λ t. arrives s p 0 0 (call s (ask p) m) m (by-the-rules s (ask p) m t);
-  turns = turn-rules s p m;
-  long-lived = λ long r c. long-lived-rules s long p m r c;
-  one-time = λ once r c. one-time-rules s once p m r c;
-}
+follows-the-rules s p m Ask t to (asks idle arrives) = by-the-rules s (ask p) m t ∙ arrives-so s p 0 0 m to arrives
+follows-the-rules s p m Turn t to (write-x {r} {c} at) = turned-at s p m r c WriteX t at
+follows-the-rules s p m Turn t to (long-scan-marked {r} {c} {h} long at low e) =
+    turned-to s p m r c (Scan h) (Seeking r c (Clear Right)) t at
+    (leave-long s long p m r c Right ∙ turning.scan-marked s p r c h _ (mark-read s long p m r c h 1 e))
+follows-the-rules s p m Turn t to (long-scan-next {r} {c} {h} long at low e) =
+    turned-to s p m r c (Scan h) (Seeking r c (Scan (h + 1))) t at
+    (turning.scan-on s p r c h _ (not-marked s long p m r c h e) (λ last. let w = width-long-lived s long in omega arith))
+follows-the-rules s p m Turn t to (long-scan-last {r} {c} {h} long at last e) =
+    turned-to s p m r c (Scan h) (Seeking r c WriteMark) t at
+    (turning.scan-done s p r c h _ (not-marked s long p m r c h e) (last ∙ sym (width-long-lived s long)))
+follows-the-rules s p m Turn t to (once-scan-marked {r} {c} once at e moves) =
+    turned-to s p m r c (Scan 0) (move s r c Right) t at
+    (leave-at-once s r c Right once ∙ turning.scan-marked s p r c 0 _ (mark-read-once s once p m r c 1 e))
+    ∙ moves-so s p r c Right m to moves
+follows-the-rules s p m Turn t to (once-scan-clear {r} {c} once at e) =
+    turned-to s p m r c (Scan 0) (Seeking r c WriteMark) t at
+    (turning.scan-done s p r c 0 _ (not-marked-once s once p m r c e) (let w = width-one-time s once in omega arith))
+follows-the-rules s p m Turn t to (long-write-mark {r} {c} long at) =
+    turned-at s p m r c WriteMark t at
+    ∙ ap (λ (i : ℕ). standsAt s p (Seeking r c ReadX) (withMark i 1 m)) (own-mark-long s long p m r c)
+follows-the-rules s p m Turn t to (once-write-mark {r} {c} once at) =
+    turned-at s p m r c WriteMark t at
+    ∙ ap (λ (i : ℕ). standsAt s p (Seeking r c ReadX) (withMark i 1 m)) (own-mark-once s once p m r c)
+follows-the-rules s p m Turn t to (read-x-own {r} {c} at e) =
+    turned-to s p m r c ReadX (Holding r c) t at (turning.reads-own s p r c (xOf s m r c) e)
+follows-the-rules s p m Turn t to (long-read-x-other {r} {c} long at other) =
+    turned-to s p m r c ReadX (Seeking r c (Clear Down)) t at (leave-long s long p m r c Down ∙ turning.reads-other s p r c _ other)
+follows-the-rules s p m Turn t to (once-read-x-other {r} {c} once at other moves) =
+    turned-to s p m r c ReadX (move s r c Down) t at (leave-at-once s r c Down once ∙ turning.reads-other s p r c _ other)
+    ∙ moves-so s p r c Down m to moves
+follows-the-rules s p m Turn t to (clear {r} {c} {direction} long at moves) =
+    turned-at s p m r c (Clear direction) t at
+    ∙ ap (λ (i : ℕ). standsAt s p (move s r c direction) (withMark i 0 m)) (own-mark-long s long p m r c)
+    ∙ moves-so s p r c direction (withMark (markOf s r c p) 0 m) to moves
+follows-the-rules s p m Release t to (release-block {r} {c} long held on) =
+    released s long p m r c t held
+    ∙ rw (le-leb (r + c + 2) (s .k) on) (ap (λ (i : ℕ). freesAt s p r c (withMark i 0 m)) (own-mark-long s long p m r c))
+follows-the-rules s p m Release t to (release-edge {r} {c} long held at) =
+    released s long p m r c t held ∙ rw (lt-leb (r + c + 2) (s .k) (let l : s .k < r + c + 2 = omega arith in l))
+
+-- ---- of each accepted call a line speaks
+
+zero-or-one : (v : ℕ) → v ≤ 1 → (v ≡ 0) ⊎ (v ≡ 1)
+zero-or-one v l = go (ℕ-discrete v 0)
+  where
+    go : Dec (v ≡ 0) → (v ≡ 0) ⊎ (v ≡ 1)
+    go (yes e) = inl e
+    go (no d) = inr (omega arith)
+
+module _ (s : Settings) (p : ℕ) (m : Memory) where
+  -- a task comes to the edge or to a block
+  arrival : (r c : ℕ) (left : Memory) → r + c + 1 ≤ s .k → Arrives s p r c left (standsAt s p (arrive s r c) left)
+  arrival r c left within = go (ℕ-discrete (r + c + 1) (s .k))
+    where
+      go : Dec (r + c + 1 ≡ s .k) → Arrives s p r c left (standsAt s p (arrive s r c) left)
+      go (yes e) = subst (λ (state : State). Arrives s p r c left (standsAt s p state left)) (arrive-edge s r c e) (edge e)
+      go (no d) = subst (λ (state : State). Arrives s p r c left (standsAt s p state left)) (arrive-block s r c d) (block (omega arith))
+
+  -- and so does one that moves out of a block
+  going : (r c : ℕ) (direction : Direction) (left : Memory) → r + c + 2 ≤ s .k
+      → Moves s p r c direction left (standsAt s p (move s r c direction) left)
+  going r c Right left on = arrival r (c + 1) left (omega arith)
+  going r c Down left on = arrival (r + 1) c left (omega arith)
+
+  -- a line that speaks of an accepted call says its outcome
+  spoken : (kind : Kind) → AcceptedIn s (eventOf kind p) m → (to : Outcome) → Says s p m kind to
+      → Says s p m kind (call s (eventOf kind p) m)
+  spoken kind t to line = subst (Says s p m kind) (sym (follows-the-rules s p m kind t to line)) line
+
+  -- ---- a turn
+
+  module _ (t : AcceptedIn s (turn p) m) where
+    abbrev tests : Passed s (turn p) m
+    tests = passed s (turn p) m t
+
+    abbrev fair : Limits s
+    fair = limits s (tests .lent .limits)
+
+    abbrev Spoken : Type 0
+    Spoken = Says s p m Turn (call s (turn p) m)
+
+    module _ (r c : ℕ) where
+      scan-spoken : (h : ℕ) → SeeksAt s p m r c (Scan h) → h < width s → (s .mode ≡ 0) ⊎ (s .mode ≡ 1) → Spoken
+      scan-spoken h at low (inl once) = go (zero-or-one (oneMark s m r c) (rw (mark-once s once p m r c) at mark))
+        where
+          first : h ≡ 0
+          first = let w = width-one-time s once in omega arith
+
+          mark : getD (m .marks) (markIndex s (blockNumber s r c) 0) 0 ≤ 1
+          mark = leb→le _ 1 (tests .marks _ (mark-below s fair r c 0 (at .on-block) (rw first at low)))
+
+          at-first : SeeksAt s p m r c (Scan 0)
+          at-first = subst (λ (q : ℕ). SeeksAt s p m r c (Scan q)) first at
+
+          go : (oneMark s m r c ≡ 0) ⊎ (oneMark s m r c ≡ 1) → Spoken
+          go (inl e) = spoken Turn t _ (once-scan-clear once at-first e)
+          go (inr e) = spoken Turn t _ (once-scan-marked once at-first e (going r c Right m (at .on-block)))
+      scan-spoken h at low (inr long) = go (zero-or-one (longMark s m r c h) (rw (mark-long s long p m r c h) at mark)) (ℕ-discrete (h + 1) (s .n))
+        where
+          below : h < s .n
+          below = rw (width-long-lived s long) at low
+
+          mark : getD (m .marks) (markIndex s (blockNumber s r c) h) 0 ≤ 1
+          mark = leb→le _ 1 (tests .marks _ (mark-below s fair r c h (at .on-block) low))
+
+          go : (longMark s m r c h ≡ 0) ⊎ (longMark s m r c h ≡ 1) → Dec (h + 1 ≡ s .n) → Spoken
+          go (inl e) (yes last) = spoken Turn t _ (long-scan-last long at last e)
+          go (inl e) (no d) = spoken Turn t _ (long-scan-next long at (omega (arith, below)) e)
+          go (inr e) last = spoken Turn t _ (long-scan-marked long at below e)
+
+      read-spoken : SeeksAt s p m r c ReadX → Dec (xOf s m r c ≡ p + 1) → (s .mode ≡ 0) ⊎ (s .mode ≡ 1) → Spoken
+      read-spoken at (yes e) modes = spoken Turn t _ (read-x-own at e)
+      read-spoken at (no other) (inl once) = spoken Turn t _ (once-read-x-other once at other (going r c Down m (at .on-block)))
+      read-spoken at (no other) (inr long) = spoken Turn t _ (long-read-x-other long at other)
+
+      write-mark-spoken : SeeksAt s p m r c WriteMark → (s .mode ≡ 0) ⊎ (s .mode ≡ 1) → Spoken
+      write-mark-spoken at (inl once) = spoken Turn t _ (once-write-mark once at)
+      write-mark-spoken at (inr long) = spoken Turn t _ (long-write-mark long at)
+
+      turn-spoken : (point : Point) → SeeksAt s p m r c point → T (pointInRange s point) → Spoken
+      turn-spoken WriteX at good = spoken Turn t _ (write-x at)
+      turn-spoken (Scan h) at good = scan-spoken h at (ltb→lt h (width s) good) (two-modes s fair)
+      turn-spoken WriteMark at good = write-mark-spoken at (two-modes s fair)
+      turn-spoken ReadX at good = read-spoken at (ℕ-discrete (xOf s m r c) (p + 1)) (two-modes s fair)
+      turn-spoken (Clear direction) at good =
+          spoken Turn t _ (clear (eqb→eq (s .mode) 1 good) at (going r c direction (withMark (markOf s r c p) 0 m) (at .on-block)))
+
+  -- ---- a release
+
+  release-spoken : AcceptedIn s (release p) m → (r c : ℕ) → s .mode ≡ 1 → stateOf m p ≡ Holding r c → r + c + 1 ≤ s .k
+      → Says s p m Release (call s (release p) m)
+  release-spoken t r c long held within = go (ℕ-discrete (r + c + 1) (s .k))
+    where
+      go : Dec (r + c + 1 ≡ s .k) → Says s p m Release (call s (release p) m)
+      go (yes e) = spoken Release t _ (release-edge long held e)
+      go (no d) = spoken Release t _ (release-block long held (omega arith))
+
+  -- ---- by the record of the task
+
+  by-record : (kind : Kind) → AcceptedIn s (eventOf kind p) m → Passed s (eventOf kind p) m
+      → (state : State) → stateOf m p ≡ state → T (stateInRange s state) → (NotTheMoment kind state → ⊥) → Says s p m kind (call s (eventOf kind p) m)
+  by-record Ask t ok Idle is good moment = spoken Ask t _ (asks is (arrival 0 0 m (limits s (ok .lent .limits) .k-least)))
+  by-record Ask t ok (Seeking r c point) is good moment = absurd (moment (λ no. no))
+  by-record Ask t ok (Holding r c) is good moment = absurd (moment (λ no. no))
+  by-record Turn t ok Idle is good moment = absurd (moment (λ no. no))
+  by-record Turn t ok (Seeking r c point) is good moment =
+      turn-spoken t r c point (record { stands = is; on-block = seeks-on-block s (Seeking r c point) r c point good refl })
+      (seeks-at-point s (Seeking r c point) r c point good refl)
+  by-record Turn t ok (Holding r c) is good moment = absurd (moment (λ no. no))
+  by-record Release t ok Idle is good moment = absurd (moment (λ no. no))
+  by-record Release t ok (Seeking r c point) is good moment = absurd (moment (λ no. no))
+  by-record Release t ok (Holding r c) is good moment =
+      release-spoken t r c (omega (arith, ok .releases refl, limits s (ok .lent .limits) .mode-most)) is (leb→le (r + c + 1) (s .k) good)
+
+pub each-spoken-of : EachSpokenOf
+each-spoken-of s p m kind t =
+    let ok = passed s (eventOf kind p) m t in
+    by-record s p m kind t ok (stateOf m p) refl (ok .in-range) (ok .moment)

@@ -40,7 +40,7 @@ width-one-time s e = rw (eq-eqb (s .mode) 0 e)
 pub width-long-lived : (s : Settings) → s .mode ≡ 1 → width s ≡ s .n
 width-long-lived s e = rw (ne-eqb (s .mode) 0 (λ f. omega arith))
 
-own-one-time : (s : Settings) (p : ℕ) → s .mode ≡ 0 → own s p ≡ 0
+pub own-one-time : (s : Settings) (p : ℕ) → s .mode ≡ 0 → own s p ≡ 0
 own-one-time s p e = rw (eq-eqb (s .mode) 0 e)
 
 pub own-long-lived : (s : Settings) (p : ℕ) → s .mode ≡ 1 → own s p ≡ p
