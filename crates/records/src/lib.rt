@@ -1,8 +1,10 @@
 // One task's record, by value: whether it is in range, where the task stands, which register its
-// next call touches, and what the call answers. Nothing above this crate matches on points.
+// next call touches, the record after the call, and what the call answers. Nothing above this crate
+// matches on points.
 
 use machine::Access;
 use machine::Answer;
+use machine::Kind;
 use machine::Point;
 use machine::Record;
 use machine::Settings;
@@ -17,8 +19,8 @@ ghost use lib.Dec.{T};
 ghost use Rattle.machine.specs.Settings.{permitted, own};
 ghost use Rattle.machine.specs.Places.{blockNumber};
 ghost use Rattle.machine.specs.Records.{pointInRange, recordInRange, isIdle, isSeeking, isHolding, isOut};
-ghost use Rattle.machine.specs.Turn.{pointAccess, turnAccess, releaseAccess};
-ghost use Rattle.machine.specs.Calls.{standing, freed};
+ghost use Rattle.machine.specs.Turn.{pointAccess, turnAccess, releaseAccess, access, next};
+ghost use Rattle.machine.specs.Calls.{standing, freed, answerOf};
 
 // Whether a seeking task may stand at the point: a scan at one of the block's marks, a clear
 // long-lived only.
@@ -129,7 +131,7 @@ fn point_access(s: Settings, task: TaskId, r: u8, c: u8, point: Point) -> Access
 }
 
 // The register that a turn touches: none where the task does not seek.
-pub fn turn_access(s: Settings, task: TaskId, this: Record) -> Access
+fn turn_access(s: Settings, task: TaskId, this: Record) -> Access
     requires { ⌜ T (permitted s) × T (recordInRange s this) ⌝ }
     ensures { λ access. ⌜ access ≡ turnAccess s (task .0) (this .state) ⌝ }
 {
@@ -143,7 +145,7 @@ pub fn turn_access(s: Settings, task: TaskId, this: Record) -> Access
 
 // The register that a release touches: the own mark of a block, and none on the edge or where the
 // task does not hold.
-pub fn release_access(s: Settings, task: TaskId, this: Record) -> Access
+fn release_access(s: Settings, task: TaskId, this: Record) -> Access
     requires { ⌜ T (permitted s) × T (recordInRange s this) ⌝ }
     ensures { λ access. ⌜ access ≡ releaseAccess s (task .0) (this .state) ⌝ }
 {
@@ -160,8 +162,34 @@ pub fn release_access(s: Settings, task: TaskId, this: Record) -> Access
     }
 }
 
+// The register that a call touches: none for an ask.
+pub fn access(s: Settings, kind: Kind, task: TaskId, this: Record) -> Access
+    requires { ⌜ T (permitted s) × T (recordInRange s this) ⌝ }
+    ensures { λ touch. ⌜ touch ≡ access s kind (task .0) (this .state) ⌝ }
+{
+    match kind {
+        Kind::Ask => Access::NoAccess,
+        Kind::Turn => turn_access(s, task, this),
+        Kind::Release => release_access(s, task, this),
+    }
+}
+
+// The record after an accepted call, where v is the value that its access read.
+pub fn next(s: Settings, kind: Kind, task: TaskId, this: Record, v: u32) -> Record
+    requires { ⌜ T (permitted s) × T (recordInRange s this) ⌝ }
+    ensures { λ to. ⌜ to ≡ record { state = next s kind (task .0) (this .state) v } ⌝ }
+{
+    match kind {
+        Kind::Ask => Record {
+            state: s.arrive(0, 0),
+        },
+        Kind::Turn => this.turned(s, task, v),
+        Kind::Release => Record { state: State::Idle },
+    }
+}
+
 // What an ask or a turn answers that leaves this record: "seeks", or "holds" with the name.
-pub fn standing(s: Settings, this: Record) -> Answer
+fn standing(s: Settings, this: Record) -> Answer
     requires { ⌜ T (permitted s) × T (recordInRange s this) ⌝ }
     ensures { λ answer. ⌜ answer ≡ standing s (this .state) ⌝ }
 {
@@ -174,7 +202,7 @@ pub fn standing(s: Settings, this: Record) -> Answer
 }
 
 // What a release answers that finds this record: the freed name.
-pub fn freed(s: Settings, this: Record) -> Answer
+fn freed(s: Settings, this: Record) -> Answer
     requires { ⌜ T (permitted s) × T (recordInRange s this) ⌝ }
     ensures { λ answer. ⌜ answer ≡ freed s (this .state) ⌝ }
 {
@@ -183,5 +211,17 @@ pub fn freed(s: Settings, this: Record) -> Answer
         State::Idle => Answer::Seeks,
         State::Seeking { .. } => Answer::Seeks,
         State::Holding { r, c } => Answer::Freed(name_at(s, r, c)),
+    }
+}
+
+// What an accepted call answers, from the record before it and the record after it.
+pub fn answer(s: Settings, kind: Kind, before: Record, after: Record) -> Answer
+    requires { ⌜ T (permitted s) × T (recordInRange s before) × T (recordInRange s after) ⌝ }
+    ensures { λ said. ⌜ said ≡ answerOf s kind (before .state) (after .state) ⌝ }
+{
+    match kind {
+        Kind::Ask => standing(s, after),
+        Kind::Turn => standing(s, after),
+        Kind::Release => freed(s, before),
     }
 }

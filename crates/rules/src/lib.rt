@@ -9,7 +9,6 @@ use machine::Record;
 use machine::Refusal;
 use machine::Row;
 use machine::Settings;
-use machine::State;
 use machine::TaskId;
 use machine::Verdict;
 use machine::View;
@@ -314,84 +313,28 @@ pub fn setup(s: Settings, seen: View, xs: &mut [u32], marks: &mut [u8]) -> Prepa
     }
 }
 
-// Ask: the task comes to (0, 0), and no register is touched; a refusal changes nothing.
-fn ask(s: Settings, seen: View, xs: &mut [u32], marks: &mut [u8], task: TaskId) -> Decided
-    ensures { λ d. ⌜ decided d (now (xs .exit)) (now (marks .exit)) ≡ decision s Kind.Ask (task .0) seen (now (xs .entry)) (now (marks .entry)) ⌝ }
-{
-    let own = seen.own;
-    match verdict(s, Kind::Ask, seen, xs, marks, task) {
-        Verdict::Refused(why) => Decided {
-            answer: Answer::Refused(why),
-            own: own,
-        },
-        Verdict::Accepted => {
-            let first = Record {
-                state: s.arrive(0, 0),
-            };
-            Decided {
-                answer: records::standing(s, first),
-                own: first,
-            }
-        }
-    }
-}
-
-// Turn: the one access, and the next record from the value read; a refusal changes nothing.
-fn turn(s: Settings, seen: View, xs: &mut [u32], marks: &mut [u8], task: TaskId) -> Decided
-    requires { ⌜ Sees s (task .0) seen ⌝ }
-    ensures { λ d. ⌜ decided d (now (xs .exit)) (now (marks .exit)) ≡ decision s Kind.Turn (task .0) seen (now (xs .entry)) (now (marks .entry)) ⌝ }
-{
-    let own = seen.own;
-    match verdict(s, Kind::Turn, seen, xs, marks, task) {
-        Verdict::Refused(why) => Decided {
-            answer: Answer::Refused(why),
-            own: own,
-        },
-        Verdict::Accepted => {
-            let access = records::turn_access(s, task, own);
-            let v = touch(s, access, xs, marks);
-            let next = own.turned(s, task, v);
-            Decided {
-                answer: records::standing(s, next),
-                own: next,
-            }
-        }
-    }
-}
-
-// Release: the own mark of a block is cleared, and the task is idle; a refusal changes nothing.
-fn release(s: Settings, seen: View, xs: &mut [u32], marks: &mut [u8], task: TaskId) -> Decided
-    requires { ⌜ Sees s (task .0) seen ⌝ }
-    ensures { λ d. ⌜ decided d (now (xs .exit)) (now (marks .exit)) ≡ decision s Kind.Release (task .0) seen (now (xs .entry)) (now (marks .entry)) ⌝ }
-{
-    let own = seen.own;
-    match verdict(s, Kind::Release, seen, xs, marks, task) {
-        Verdict::Refused(why) => Decided {
-            answer: Answer::Refused(why),
-            own: own,
-        },
-        Verdict::Accepted => {
-            let idle = Record { state: State::Idle };
-            let access = records::release_access(s, task, own);
-            touch(s, access, xs, marks);
-            Decided {
-                answer: records::freed(s, own),
-                own: idle,
-            }
-        }
-    }
-}
-
-// Ask, turn or release, by the event's kind.
+// Ask, turn or release, by the event's kind: the one access, and the next record from the value read;
+// a refusal changes nothing.
 pub fn decide(s: Settings, seen: View, xs: &mut [u32], marks: &mut [u8], event: Event) -> Decided
     requires { ⌜ Sees s (event .task .0) seen ⌝ }
     ensures { λ d. ⌜ decided d (now (xs .exit)) (now (marks .exit)) ≡ decision s (event .kind) (event .task .0) seen (now (xs .entry)) (now (marks .entry)) ⌝ }
 {
     let kind = event.kind;
     let task = event.task;
-    match kind {
-        Kind::Ask => ask(s, seen, xs, marks, task),
-        Kind::Turn => turn(s, seen, xs, marks, task),
-        Kind::Release => release(s, seen, xs, marks, task),
+    let own = seen.own;
+    match verdict(s, kind, seen, xs, marks, task) {
+        Verdict::Refused(why) => Decided {
+            answer: Answer::Refused(why),
+            own: own,
+        },
+        Verdict::Accepted => {
+            let access = records::access(s, kind, task, own);
+            let v = touch(s, access, xs, marks);
+            let next = records::next(s, kind, task, own, v);
+            Decided {
+                answer: records::answer(s, kind, own, next),
+                own: next,
+            }
+        }
     }
 }
