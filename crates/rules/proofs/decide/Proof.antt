@@ -3,14 +3,12 @@
 use mathlib.Core.Path.{_≡_, _∙_, sym, ap}
 use denote.Ref.{now}
 use Rattle.machine.specs.Turn.{next}
-use Rattle.machine.specs.Refusals.{verdict}
 use Rattle.machine.specs.declared.Record.{Record}
-use Rattle.machine.specs.declared.Verdict.{Verdict}
 use Rattle.machine.proofs.Limits.{limits}
 use Rattle.machine.proofs.Sound.{next-in-range}
 use Rattle.rules.specs.Decision.{rows, Touched, touching}
 use Rattle.rules.proofs.Touching.{access-needed}
-use Rattle.rules.proofs.Deciding.{accepted-decided}
+use Rattle.rules.proofs.Deciding.{refused-decided, accepted-decided}
 use Rattle.rules.proofs.Accepting.{accepts, own-in-range}
 use Rattle.machine.proofs.Tests.{tests}
 use Rattle.rules.proofs.decide.Statement.{statement}
@@ -64,8 +62,8 @@ same-length-2 c = search tests
 returns : tie.Need-returns
 returns c =
     let a = c .before .before .before .before .before .before .before .before .before .before .args in
-    let refused : verdict (a .s) (a .event .kind) (a .event .task .0) (a .seen) (now (a .xs)) (now (a .marks)) ≡ Verdict.Refused _ = sym (c .before .before .before .verdict .ensures) ∙ c .before .why .given .1 in
-    rw refused
+    let refused = sym (c .before .before .before .verdict .ensures) ∙ c .before .why .given .1 in
+    refused-decided (a .s) (a .event .kind) (a .event .task .0) (a .seen) (now (a .xs)) (now (a .marks)) _ refused
 
 same-length-3 : tie.Need-same-length-3
 same-length-3 c = search tests
