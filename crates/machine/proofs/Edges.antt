@@ -1,4 +1,4 @@
--- The table of 01's starred edges, proved: the runs by computing them, the open ones from what an accepted setup leaves.
+-- The table of 01's starred edges, proved: the runs with fixed N and k by computing them, the open ones from what an accepted setup leaves.
 use mathlib.Core.Path.{_≡_, refl, _∙_}
 use mathlib.Core.Bool.{Bool, true, false, cond, _&&_}
 use Prim.Native.Nat.{ℕ, _<_}
@@ -12,13 +12,14 @@ use Rattle.machine.specs.Answers.{isAccepted}
 use Rattle.machine.specs.Calls.{call, setup, verdictOf, standing, ask, release}
 use Rattle.machine.specs.Listing.{decimal}
 use Rattle.machine.specs.Demands.{SetUp}
-use Rattle.machine.specs.Edges.{FiveNames, NoTurns, LoneTask, TheOtherTask, OneTimePair, TheListing, TwoOut, LastIdentifier, NoRelease, NoReleaseIdle, Edges}
+use Rattle.machine.specs.Edges.{FiveNames, NoTurns, LoneTask, TheOtherTask, TheListing, TwoOut, LastIdentifier, NoRelease, NoReleaseIdle, Edges}
 use Rattle.machine.specs.declared.Settings.{Settings}
 use Rattle.machine.specs.declared.State.{State}
 use Rattle.machine.specs.declared.State.the-variants.{Idle, Seeking, Holding}
 use Rattle.machine.specs.declared.Verdict.{Verdict}
 use Rattle.machine.proofs.Limits.{limits}
 use Rattle.machine.proofs.Fresh.{setup-permitted, fresh-passes, fresh-idle, fresh-none-out, verdict-past-range}
+use Rattle.machine.proofs.OneTimePair.{one-time-pair}
 
 five-names : FiveNames
 unfolding half placeNumber
@@ -31,10 +32,6 @@ lone-task = (refl, refl)
 the-other-task : TheOtherTask
 unfolding half placeNumber count firstBad
 the-other-task = (refl, refl)
-
-one-time-pair : OneTimePair
-unfolding half placeNumber count firstBad
-one-time-pair = (refl, refl, refl, refl)
 
 the-listing : TheListing
 unfolding half placeNumber count firstBad decimal

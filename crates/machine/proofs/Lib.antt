@@ -11,6 +11,7 @@ pub mod Searching
 pub mod Determined
 -- the table of 01's edges
 pub mod Fresh
+pub mod OneTimePair
 pub mod Edges
 -- demands 1 and 2: refusals, the one access, surplus
 pub mod Cells

@@ -1,7 +1,7 @@
 -- 01, "Both sides of each edge": the nine starred lines, as one statement about the definitions.
 -- A run begins with setup of a lent memory. Where a line leaves N, k, mode or task open it is stated for all that are permitted; the lines that
--- follow a run of turns are stated at the smallest and the largest N that they permit (docs/DECISIONS.md), on the largest memory: by
--- `SurplusNeverBears` any other memory that setup accepts gives the same answers.
+-- fix N and k and follow a run of turns are stated on the largest memory: setup clears what is needed, and by `SurplusNeverBears` the rest
+-- changes no answer (docs/DECISIONS.md).
 use mathlib.Core.Path.{_≡_}
 use mathlib.Core.Bool.{false}
 use mathlib.Core.List.{List, [], _∷_, _++_, map}
@@ -30,9 +30,13 @@ settings mode n k = record { mode = mode; n = n; k = k }
 abbrev pub named : ℕ → Answer
 named n = Holds (record { 0 = n })
 
+-- the answers of calls
+abbrev pub answersIn : List Answered → List Answer
+answersIn = map (λ (done : Answered). done .answer)
+
 -- what a run of calls is answered, on the largest lent memory
 abbrev pub answers : Settings → List Event → List Answer
-answers s events = map (λ (done : Answered). done .answer) (historyOf s largest events)
+answers s events = answersIn (historyOf s largest events)
 
 -- a task asks and takes so many turns
 abbrev pub acquires : ℕ → ℕ → List Event
@@ -104,11 +108,10 @@ TheOtherTask =
     × (answers (settings 1 2 2) (acquires 1 5 ++ acquires 0 4) ≡ servedAt 5 0 ++ servedAt 4 1)
 
 -- Mode 0, k = 2: first task name 0 in 4 turns, a later one name 1 in 2
-abbrev pub FirstAndLater : ℕ → ℕ → ℕ → Type 0
-FirstAndLater n p q = answers (settings 0 n 2) (acquires p 4 ++ acquires q 2) ≡ servedAt 4 0 ++ servedAt 2 1
-
 abbrev pub OneTimePair : Type 0
-OneTimePair = FirstAndLater 2 0 1 × FirstAndLater 2 1 0 × FirstAndLater 256 0 255 × FirstAndLater 256 255 0
+OneTimePair =
+    (s : Settings) (lent : Memory) → SetUp s lent → s .mode ≡ 0 → s .k ≡ 2 → (p q : ℕ) → p < s .n → q < s .n → (q ≡ p → ⊥)
+    → answersIn (historyOf s lent (acquires p 4 ++ acquires q 2)) ≡ servedAt 4 0 ++ servedAt 2 1
 
 -- The listing above, whose task 0 uses 6 turns, the bound for N = 2, k = 2
 abbrev pub TheListing : Type 0

@@ -1,0 +1,168 @@
+-- 01's edge "Mode 0, k = 2: first task name 0 in 4 turns, a later one name 1 in 2", followed call by call for every N and every two tasks.
+use mathlib.Core.Path.{_≡_, refl, sym, ap, subst, _∙_}
+use mathlib.Core.List.{List, [], _∷_, _++_}
+use Prim.Native.Nat.{ℕ, suc, _+_, _≤_, _<_}
+use native.Mathlib.Omega.{arith}
+use lib.Dec.{T}
+use lib.ListN.{getD, set}
+use Rattle.machine.specs.Settings.{permitted, width, own}
+use Rattle.machine.specs.Places.{half, placeNumber, blockNumber, nameNumber}
+use Rattle.machine.specs.Records.{isOut}
+use Rattle.machine.specs.Memory.{Memory, markIndex, stateOf, outOf}
+use Rattle.machine.specs.Calls.{Outcome, eventOf, answerOf, nextState, accept, setup}
+use Rattle.machine.specs.History.{history}
+use Rattle.machine.specs.Demands.{SetUp}
+use Rattle.machine.specs.Edges.{answersIn, acquires, servedAt, OneTimePair}
+use Rattle.machine.specs.declared.Settings.{Settings}
+use Rattle.machine.specs.declared.Direction.the-variants.{Right}
+use Rattle.machine.specs.declared.Point.the-variants.{WriteX, Scan, WriteMark, ReadX}
+use Rattle.machine.specs.declared.State.{State}
+use Rattle.machine.specs.declared.State.the-variants.{Idle, Seeking, Holding}
+use Rattle.machine.specs.declared.Kind.{Kind}
+use Rattle.machine.specs.declared.Kind.the-variants.{Ask, Turn}
+use Rattle.machine.specs.declared.Event.{Event}
+use Rattle.machine.specs.declared.Answer.{Answer}
+use Rattle.machine.proofs.Limits.{limits}
+use Rattle.machine.proofs.Fresh.{setup-permitted, fresh-idle, fresh-none-out}
+use Rattle.machine.proofs.Counting.{count-but-one}
+use Rattle.machine.proofs.Turning.{scan-marked, scan-done, reads-own}
+use Rattle.machine.proofs.Arriving.{arrive-edge, arrive-block, leave-at-once}
+use Rattle.machine.proofs.Seen.{x-on-block, mark-on-block, x-put, mark-put}
+use Rattle.machine.proofs.Histories.{fresh-fine, fresh-unmarked}
+use Rattle.machine.proofs.Laps.{Took, turn-took, ask-took}
+
+-- what the calls are answered, from m on
+record Heard (s : Settings) (events : List Event) (m : Memory) (answers : List Answer) : Type 0 where
+  are : answersIn (history s events m) ≡ answers
+
+heard-nothing : {s : Settings} {m : Memory} → Heard s [] m []
+heard-nothing = record { are = refl }
+
+-- an accepted call that leaves its task at `to`, and the calls after it
+heard : {s : Settings} {fair : T (permitted s)} {kind : Kind} {p : ℕ} {state : State} {m : Memory} {events : List Event} {rest : List Answer}
+    (to : State) → Took s fair kind p state m → nextState s kind p state m ≡ to → Heard s events (accept s kind p state m .memory) rest
+    → Heard s (eventOf kind p ∷ events) m (answerOf s kind state to ∷ rest)
+heard {s = s} {kind = kind} {p = p} {state = state} {m = m} {events = events} {rest = rest} to took e more = record {
+  are = ap (λ (o : Outcome). o .answer ∷ answersIn (history s events (o .memory))) (took .does)
+      ∙ ap (λ (l : List Answer). accept s kind p state m .answer ∷ l) (more .are)
+      ∙ ap (λ (z : State). answerOf s kind state z ∷ rest) e;
+}
+
+-- with k = 2 the names at (0, 0) and (0, 1) are 0 and 1
+two-names : (s : Settings) → s .k ≡ 2 → (nameNumber s 0 0 ≡ 0) × (nameNumber s 0 1 ≡ 1)
+unfolding half placeNumber
+two-names s two = rw two (refl, refl)
+
+module _ (s : Settings) (lent : Memory) (ok : SetUp s lent) (one-time : s .mode ≡ 0) (two : s .k ≡ 2) (p q : ℕ) (lp : p < s .n) (lq : q < s .n)
+    (d : q ≡ p → ⊥) where
+  abbrev fair : T (permitted s)
+  fair = setup-permitted s lent ok
+
+  abbrev start : State
+  start = Seeking 0 0 WriteX
+
+  -- the memory after each call
+  abbrev m₀ : Memory
+  m₀ = setup s lent .memory
+
+  abbrev m₁ : Memory
+  m₁ = accept s Ask p Idle m₀ .memory
+
+  abbrev m₂ : Memory
+  m₂ = accept s Turn p start m₁ .memory
+
+  abbrev m₃ : Memory
+  m₃ = accept s Turn p (Seeking 0 0 (Scan 0)) m₂ .memory
+
+  abbrev m₄ : Memory
+  m₄ = accept s Turn p (Seeking 0 0 WriteMark) m₃ .memory
+
+  abbrev m₅ : Memory
+  m₅ = accept s Turn p (Seeking 0 0 ReadX) m₄ .memory
+
+  abbrev m₆ : Memory
+  m₆ = accept s Ask q Idle m₅ .memory
+
+  abbrev m₇ : Memory
+  m₇ = accept s Turn q start m₆ .memory
+
+  -- both asks come to the one block
+  at-start : nextState s Ask p Idle m₀ ≡ start
+  at-start = sym (arrive-block s 0 0 (λ z. omega arith))
+
+  one-wide : width s ≡ 1
+  one-wide = rw one-time
+
+  own-first : own s p ≡ 0
+  own-first = rw one-time
+
+  asks : Took s fair Ask p Idle m₀
+  asks = ask-took p m₀ (fresh-fine s lent ok) lp (omega (arith, fresh-none-out s lent ok)) (fresh-idle s lent ok p lp)
+
+  writes : Took s fair Turn p start m₁
+  writes = turn-took p 0 0 WriteX m₁ (asks .fine) lp (asks .its ∙ at-start)
+
+  scans : Took s fair Turn p (Seeking 0 0 (Scan 0)) m₂
+  scans = turn-took p 0 0 (Scan 0) m₂ (writes .fine) lp (writes .its)
+
+  -- setup left the mark 0
+  unmarked : nextState s Turn p (Seeking 0 0 (Scan 0)) m₂ ≡ Seeking 0 0 WriteMark
+  unmarked =
+      let v = getD (m₂ .marks) (markIndex s (blockNumber s 0 0) 0) 0 in
+      let e : v ≡ 0 = sym (mark-on-block s (m₀ .marks) 0 0 0 (omega arith) (omega (arith, one-wide))) ∙ fresh-unmarked s lent ok 0 0 0 in
+      sym (scan-done s p 0 0 0 v (λ z. omega arith) (omega (arith, one-wide)))
+
+  marks : Took s fair Turn p (Seeking 0 0 WriteMark) m₃
+  marks = turn-took p 0 0 WriteMark m₃ (scans .fine) lp (scans .its ∙ unmarked)
+
+  reads : Took s fair Turn p (Seeking 0 0 ReadX) m₄
+  reads = turn-took p 0 0 ReadX m₄ (marks .fine) lp (marks .its)
+
+  -- X is still what the task wrote
+  own-x : nextState s Turn p (Seeking 0 0 ReadX) m₄ ≡ Holding 0 0
+  own-x =
+      let put = x-put s (limits s fair) m₁ m₂ 0 0 (p + 1) (omega arith) (asks .fine .good .sound .xs-long) refl in
+      sym (reads-own s p 0 0 (getD (m₄ .xs) (blockNumber s 0 0) 0) (sym (x-on-block s (m₂ .xs) 0 0 (omega arith)) ∙ put .here))
+
+  -- the calls of p moved p alone, so that one task at the most is out
+  others : (r : ℕ) → (r ≡ p → ⊥) → stateOf m₅ r ≡ stateOf m₀ r
+  others r n = reads .others r n ∙ marks .others r n ∙ scans .others r n ∙ writes .others r n ∙ asks .others r n
+
+  one-out : outOf s (m₅ .records) ≤ suc (outOf s (m₀ .records))
+  one-out =
+      count-but-one (λ r. isOut (stateOf m₅ r)) (λ r. isOut (stateOf m₀ r)) (s .n) p (λ r _ n t. subst (λ z. T (isOut z)) (others r n) t)
+
+  asks-later : Took s fair Ask q Idle m₅
+  asks-later =
+      ask-took q m₅ (reads .fine) lq (omega (arith, one-out, fresh-none-out s lent ok)) (others q d ∙ fresh-idle s lent ok q lq)
+
+  writes-later : Took s fair Turn q start m₆
+  writes-later = turn-took q 0 0 WriteX m₆ (asks-later .fine) lq (asks-later .its ∙ at-start)
+
+  scans-later : Took s fair Turn q (Seeking 0 0 (Scan 0)) m₇
+  scans-later = turn-took q 0 0 (Scan 0) m₇ (writes-later .fine) lq (writes-later .its)
+
+  -- the mark is set: q goes right, to the edge
+  marked : nextState s Turn q (Seeking 0 0 (Scan 0)) m₇ ≡ Holding 0 1
+  marked =
+      let put = mark-put s (limits s fair) m₃ m₄ 0 0 0 1 (omega arith) (omega (arith, one-wide)) (scans .fine .good .sound .marks-long)
+      (ap (λ (place : ℕ). set (m₃ .marks) (markIndex s (blockNumber s 0 0) place) 1) own-first) in
+      let e = sym (mark-on-block s (m₄ .marks) 0 0 0 (omega arith) (omega (arith, one-wide))) ∙ put .here in
+      sym (arrive-edge s 0 1 (omega arith) ∙ leave-at-once s 0 0 Right one-time
+      ∙ scan-marked s q 0 0 0 (getD (m₇ .marks) (markIndex s (blockNumber s 0 0) 0) 0) e)
+
+  -- the eight calls
+  all-heard : Heard s (acquires p 4 ++ acquires q 2) m₀ (servedAt 4 (nameNumber s 0 0) ++ servedAt 2 (nameNumber s 0 1))
+  all-heard =
+      heard start asks at-start
+      (heard (Seeking 0 0 (Scan 0)) writes refl
+      (heard (Seeking 0 0 WriteMark) scans unmarked
+      (heard (Seeking 0 0 ReadX) marks refl
+      (heard (Holding 0 0) reads own-x
+      (heard start asks-later at-start
+      (heard (Seeking 0 0 (Scan 0)) writes-later refl
+      (heard (Holding 0 1) scans-later marked heard-nothing)))))))
+
+pub one-time-pair : OneTimePair
+one-time-pair s lent ok one-time two p q lp lq d =
+    all-heard s lent ok one-time two p q lp lq d .are ∙ rw (two-names s two .0, two-names s two .1)
