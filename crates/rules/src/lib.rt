@@ -38,7 +38,7 @@ pub struct Prepared {
 }
 
 // The index of the first needed X number that is out of range; their count where none is.
-pub fn bad_x(s: Settings, xs: &[u32]) -> usize
+fn bad_x(s: Settings, xs: &[u32]) -> usize
     requires { ⌜ T (permitted s) × (blocks s ≤ length (now xs)) ⌝ }
     ensures { λ i. ⌜ i ≡ badX s (now (xs .entry)) ⌝ }
 {
@@ -93,7 +93,7 @@ fn search_marks(s: Settings, marks: &[u8]) -> usize
 
 // The index of the first needed mark that is out of range; their count where none is. The search
 // is skipped where no mark is above 1.
-pub fn bad_mark(s: Settings, marks: &[u8]) -> usize
+fn bad_mark(s: Settings, marks: &[u8]) -> usize
     requires { ⌜ T (permitted s) × (marksNeeded s ≤ length (now marks)) ⌝ }
     ensures { λ i. ⌜ i ≡ badMark s (now (marks .entry)) ⌝ }
 {
@@ -214,7 +214,7 @@ fn task_verdict(s: Settings, kind: Kind, seen: View, task: TaskId) -> Verdict
 }
 
 // What the tests of ask, turn and release say: 1 to 7 ascending.
-pub fn verdict(
+fn verdict(
     s: Settings,
     kind: Kind,
     seen: View,
