@@ -2,4 +2,5 @@
 pub mod ByDecision
 pub mod Functions
 pub mod Making
+pub mod Determined
 mod Stepping

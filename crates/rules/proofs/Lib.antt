@@ -4,3 +4,4 @@ pub mod Rows
 pub mod Touching
 pub mod Accepting
 pub mod Deciding
+pub mod Determined
