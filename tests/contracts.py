@@ -1,6 +1,8 @@
 #!/usr/bin/env python3
 """The tables in docs/ against the crates:
 - every `pub fn` has an `ensures` and a row in docs/CONTRACTS.md, and every row a function and two must-fail edits or more;
+- an `ensures` is one equation or one record; it speaks of the result and of every `&mut` parameter afterwards, and its row names the
+  definitions at its head and the lemma that two outcomes are equal: two premises of the lemma have the same definitions at their heads;
 - no public function of an entry crate (calls, schedule, listing) has a `requires`;
 - every must-fail edit that is named exists, and every edit is named in docs/CONTRACTS.md or docs/MUST_FAIL.md;
 - docs/WALKS.md has a row for every function that is walked by hand, with the length of its proof.
@@ -15,6 +17,9 @@ CRATES = os.path.join(ROOT, 'crates')
 ENTRIES = ('calls', 'schedule', 'listing')
 SIGNATURE = re.compile(r'\bpub\s+(?:extern\s+"C"\s+)?fn\s+(\w+)')
 IMPL = re.compile(r'^impl(?:<[^>]*>)?\s+(\w+)', re.M)
+ENSURES = re.compile(r'ensures \{ λ (\w+)\. ⌜ (.*?) ⌝ \}', re.S)
+LENT = re.compile(r"(\w+): &(?:'\w+ )?mut\b|&(?:'\w+ )?mut (self)\b")
+LEMMA = re.compile(r'^pub (\S+) : (.*?)(?=^\S)', re.M | re.S)
 WALKED = re.compile(r'^use Rattle·\w+·proofs\.proofs\.[\w.]+\.Code as ', re.M)
 
 
@@ -47,18 +52,76 @@ def rows(text):
             yield name.group(1), cells[1:]
 
 
+def lemmas(crate):
+    """The public lemmas, of no one function, of a crate and of those that it is built on, each with its type."""
+    below = re.search(rf'^{crate}:(.*)', read('crates.txt'), re.M).group(1).split()
+    paths = [path for c in [crate, *below] for path in glob.glob(os.path.join(CRATES, c, 'proofs', '*.antt'))]
+    return {f'`{name}`': told for path in paths for name, told in LEMMA.findall(read(path))}
+
+
+def words(text):
+    return re.findall(r'[^\s(){};]+', text)
+
+
+def says(text, part):
+    return re.search(rf'(?<![\w.]){re.escape(part)}(?!\w)', text)
+
+
+def heads(fact):
+    """The definition at the head of a record, or of each side of an equation; of a `record {..}` those at the heads of its fields."""
+    for side in fact.split(' ≡ '):
+        first = words(side)[0]
+        yield from re.findall(r'= (\S+)', side) if first == 'record' else [first]
+
+
+def determined(check, name, head, row):
+    """One function's `ensures` against its row: the definitions that it cites, and the lemma that two outcomes are equal."""
+    clauses = ENSURES.findall(head)
+    result, fact = clauses[0] if len(clauses) == 1 else ('', '')
+    left, *right = fact.split(' ≡ ')
+    single = fact and len(right) < 2 and not re.search('[→×⊎∃λ]', fact)
+    check(single, f'{name}: its ensures is not one equation or one record')
+    if not single:
+        return
+    signature = re.split('requires|ensures', head)[0]
+    outcome = [result] * ('->' in signature) + [f'now ({a or b} .exit)' for a, b in LENT.findall(signature)]
+    for part in outcome:
+        check(says(left, part) and not says(''.join(right), part), f'{name}: its ensures does not say what {part} is')
+    plain = bool(right) and outcome == [left]
+    cited = list(heads(right[0] if plain else fact))
+    named = re.findall(r'`([^`]+)`', row[0])
+    for definition in cited:
+        check(definition in named, f'{name}: its ensures cites {definition}, which its row does not name')
+    for definition in named:
+        check(definition in words(head), f'{name}: its row names {definition}, which its contract does not cite')
+    equation = row[1] == 'an equation'
+    check(plain == equation, f'{name}: its ensures is {"an" if plain else "no"} equation of the whole outcome, and its row says {row[1]}')
+    if plain or equation:
+        return
+    lemma = lemmas(name.split('::')[0]).get(row[1], '')
+    *premises, equal = lemma.split('→')
+    alike = sum(list(heads(premise)) == cited for premise in premises)
+    check(lemma, f'{name}: its row says {row[1]}, which is no lemma of its crate or of those below')
+    check(alike == 2, f'{name}: of the premises of {row[1]}, {alike} and not 2 are of {" and ".join(cited)}')
+    check(equal.count('≡') >= len(outcome), f'{name}: {row[1]} equates fewer than {len(outcome)} parts')
+
+
 def contracts(check):
     found = {}
     for path in sorted(glob.glob(os.path.join(CRATES, '*', 'src', '**', '*.rt'), recursive=True)):
         crate = os.path.relpath(path, CRATES).split(os.sep)[0]
         for name, head in functions(path, crate):
             found[name] = head
-    table = {name: re.findall(r'`([\w]+/[\w]+)`', cells[-1]) for name, cells in rows(read('docs', 'CONTRACTS.md'))}
+    cells = dict(rows(read('docs', 'CONTRACTS.md')))
+    table = {name: re.findall(r'`([\w]+/[\w]+)`', row[-1]) for name, row in cells.items()}
+    check('`equation-determines`' in lemmas('machine'), 'machine has no lemma equation-determines')
     for name, head in sorted(found.items()):
         check('ensures' in head, f'{name} has no ensures')
         check(name in table, f'{name} has no row in docs/CONTRACTS.md')
         if name.split('::')[0] in ENTRIES:
             check('requires' not in head, f'{name} is an entry point and has a requires')
+        if name in cells:
+            determined(check, name, head, cells[name])
     for name, edits in sorted(table.items()):
         check(name in found, f'docs/CONTRACTS.md has a row for {name}, which is no public function')
         check(len(edits) > 1, f'{name}: fewer than two wrong answers are tried')
