@@ -101,9 +101,10 @@ def determined(check, name, head, row):
     lemma = lemmas(name.split('::')[0]).get(row[1], '')
     *premises, equal = lemma.split('→')
     alike = sum(list(heads(premise)) == cited for premise in premises)
+    equated = sum(words(one) != words(other) for one, other in re.findall('([^()×≡]+)≡([^()×≡]+)', equal))
     check(lemma, f'{name}: its row says {row[1]}, which is no lemma of its crate or of those below')
     check(alike == 2, f'{name}: of the premises of {row[1]}, {alike} and not 2 are of {" and ".join(cited)}')
-    check(equal.count('≡') >= len(outcome), f'{name}: {row[1]} equates fewer than {len(outcome)} parts')
+    check(equated >= len(outcome), f'{name}: {row[1]} equates {equated} parts of {len(outcome)}')
 
 
 def contracts(check):
