@@ -13,8 +13,8 @@ use Rattle.machine.specs.Memory.{tick, count}
 use Rattle.machine.specs.Answers.{isAccepted}
 use Rattle.machine.specs.Calls.{call}
 use Rattle.machine.specs.History.{counted}
-use Rattle.machine.specs.File.{eventAt}
-use Rattle.machine.specs.Listing.{turnsAfter, progress}
+use Rattle.file.specs.File.{eventAt}
+use Rattle.printed.specs.Listing.{turnsAfter, progress}
 use Rattle.machine.specs.declared.Settings.{Settings}
 use Rattle.machine.specs.declared.Record.{Record}
 use Rattle.machine.specs.declared.Kind.{Kind}

@@ -5,15 +5,15 @@ use Prim.Native.Nat.{ℕ, _≤_, _<_}
 use native.Mathlib.Omega.{arith}
 use lib.Dec.{T}
 use Rattle.machine.specs.Settings.{permitted}
-use Rattle.machine.specs.File.{eventAt, codeBad, countOf, opening, reading}
+use Rattle.file.specs.File.{eventAt, codeBad, countOf, opening, reading}
 use Rattle.machine.specs.declared.Settings.{Settings}
 use Rattle.machine.specs.declared.Event.{Event}
 use Rattle.machine.specs.declared.Refusal.{Refusal}
 use Rattle.machine.specs.declared.Opening.{Opening}
 use Rattle.machine.specs.declared.Reading.{Reading}
 use Rattle.machine.proofs.Limits.{limits}
-use Rattle.schedule.proofs.Headers.{header-accepted, file-accepted, reading-given}
-use Rattle.schedule.proofs.Search.{none-below}
+use Rattle.file.proofs.Headers.{header-accepted, file-accepted, reading-given}
+use Rattle.file.proofs.Search.{none-below}
 
 module _ (file : List ℕ) (s : Settings) (count : ℕ) (opened : opening file ≡ Opening.Opened s count) where
   -- N is at most 256

@@ -7,10 +7,10 @@ use native.Mathlib.Numerals.{add-one}
 use native.Mathlib.Omega.{arith}
 use lib.ListN.{length, getD, replicate}
 use Rattle.machine.specs.Records.{idle}
-use Rattle.machine.specs.Memory.{Memory, holdersOf}
+use Rattle.machine.specs.Memory.{Memory, largest}
 use Rattle.machine.specs.Calls.{Outcome, call, setup}
-use Rattle.machine.specs.File.{eventAt}
-use Rattle.machine.specs.Listing.{Progress, gridLine, eventLine, endLine, turnsAfter, completed, largest, start, advanceBy, advance, progress, ended}
+use Rattle.file.specs.File.{eventAt}
+use Rattle.printed.specs.Listing.{Progress, gridLine, eventLine, endLine, turnsAfter, completed, start, advanceBy, advance, progress, ended, holdersOf}
 use Rattle.machine.specs.declared.Settings.{Settings}
 use Rattle.machine.specs.declared.Record.{Record}
 use Rattle.machine.specs.declared.Event.{Event}

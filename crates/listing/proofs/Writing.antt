@@ -5,7 +5,7 @@ use Prim.Native.Nat.{ℕ, _+_, _≤_, _<_, _^_}
 use native.Mathlib.Nat.{le-refl}
 use native.Mathlib.Omega.{arith}
 use lib.ListN.{length, length-append}
-use Rattle.machine.specs.Listing.{decimal}
+use Rattle.text.specs.Decimal.{decimal}
 use Rattle.text.specs.Put.{put, Puts}
 use Rattle.text.proofs.Putting.{length-put, put-append}
 use Rattle.text.proofs.Digits.{digits-at-most}

@@ -4,7 +4,7 @@ use mathlib.Core.List.{List, []}
 use Prim.Native.Nat.{ℕ}
 use lib.ListN.{replicate}
 use Rattle.machine.specs.Records.{idle}
-use Rattle.machine.specs.Listing.{Progress, gridLine, advanceBy}
+use Rattle.printed.specs.Listing.{Progress, gridLine, advanceBy}
 use Rattle.machine.specs.declared.Settings.{Settings}
 use Rattle.machine.specs.declared.Event.{Event}
 use Rattle.machine.specs.Lent.{lent}

@@ -21,16 +21,17 @@ ghost use mathlib.Core.List.{_++_};
 ghost use Prim.Native.Nat.{ℕ, _+_, _*_, _≤_, _<_, max};
 ghost use lib.ListN.{length, getD, replicate};
 ghost use Rattle.machine.specs.Records.{idle};
-ghost use Rattle.machine.specs.Memory.{tick, holdersOf};
+ghost use Rattle.machine.specs.Memory.{tick, largest};
 ghost use Rattle.machine.specs.Answers.{numberOf, isAccepted};
 ghost use Rattle.machine.specs.History.{counted};
-ghost use Rattle.machine.specs.File.{eventAt, opening};
-ghost use Rattle.machine.specs.Listing.{decimal, lineFeed, kindText, answerText, gridLine, eventLine, endLine, turnsAfter, completed, refusedLine, largest, progress, ended};
+ghost use Rattle.file.specs.File.{eventAt, opening, writtenOf};
+ghost use Rattle.text.specs.Decimal.{decimal, lineFeed};
+ghost use Rattle.printed.specs.Listing.{kindText, answerText, gridLine, eventLine, endLine, turnsAfter, completed, refusedLine, progress, ended, holdersOf};
 ghost use Rattle.machine.specs.Lent.{lent};
 ghost use Rattle.text.specs.Put.{Puts};
 ghost use Rattle.listing.specs.Writes.{Writes};
 ghost use Rattle.listing.specs.Standing.{Begun, Advanced};
-ghost use Rattle.listing.specs.Listed.{left, listed};
+ghost use Rattle.printed.specs.Listed.{listed};
 
 // Where a run stands: the records, each task's accepted turns since its accepted ask, PEAK and MOST
 // so far, and the index past the lines printed.
@@ -381,7 +382,7 @@ fn put_lines(file: &[u8], s: Settings, count: u16, room: &mut [u8]) -> usize
 // Lists a schedule file: the text from the start of the room, and how long it is. 45 bytes and 31 for
 // each event are always enough; a shorter room is refused, and stays as it was.
 pub fn list(file: &[u8], room: &mut [u8]) -> Writing
-    ensures { λ answer. ⌜ left answer (now (room .exit)) ≡ listed (now (file .entry)) (now (room .entry)) ⌝ }
+    ensures { λ answer. ⌜ writtenOf answer (now (room .exit)) ≡ listed (now (file .entry)) (now (room .entry)) ⌝ }
 {
     let opening = schedule::open(file);
     match opening {

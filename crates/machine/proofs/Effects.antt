@@ -20,10 +20,9 @@ use Rattle.machine.specs.declared.Access.the-variants.{NoAccess, XRead, 
 use Rattle.machine.specs.declared.Kind.{Kind}
 use Rattle.machine.specs.declared.Event.{Event}
 use Rattle.machine.specs.OneAccess.{RegisterNeeded, accessOf, AcceptedIn, reads, SameRead, SameEnd, OnlyTheRegisterReadBears, WritesX, WritesMark, Stands, ChangesOnly, WrittenChanges, OnlyTheRegisterWrittenChanges}
-use Rattle.machine.specs.SettingUp.{Lendable}
 use Rattle.machine.proofs.Refusing.{ruled}
-use Rattle.machine.proofs.Passing.{Passed, passed, by-the-rules}
-use Rattle.machine.proofs.OneAccess.{access-needed}
+use Rattle.machine.proofs.Passing.{Lendable, Passed, passed, by-the-rules}
+use Rattle.machine.proofs.OneAccess.{call-needed}
 
 -- ---- one access on a memory
 
@@ -88,7 +87,7 @@ module _ (s : Settings) (event : Event) (m : Memory) (h : Passed s event m) wher
   accepted-changes = record {
     xs = store-xs s m (accessOf s event m);
     marks = store-marks s m (accessOf s event m);
-    written = stands-with s m (accessOf s event m) _ _ _ (stands s m (accessOf s event m) (h .lent) (access-needed s event m h));
+    written = stands-with s m (accessOf s event m) _ _ _ (stands s m (accessOf s event m) (h .lent) (call-needed s event m h));
     records = rw (store-records s m (accessOf s event m)) (set-row (m .records) (event .task .0) nextOf);
     own = ap (λ (r : Record). r .state) next-in-place;
   }

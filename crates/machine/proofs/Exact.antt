@@ -11,16 +11,16 @@ use borrow.Author.Tests.{le-ltb, not-false}
 use Rattle.machine.specs.Settings.{permitted}
 use Rattle.machine.specs.Places.{half, blocks}
 use Rattle.machine.specs.Records.{idle, isSeeking}
-use Rattle.machine.specs.Memory.{Memory, marksNeeded, stateOf}
+use Rattle.machine.specs.Memory.{Memory, marksNeeded, stateOf, largest}
 use Rattle.machine.specs.Answers.{isAccepted}
 use Rattle.machine.specs.Calls.{Outcome, call, setup, turn}
-use Rattle.machine.specs.Listing.{largest}
+use Rattle.machine.specs.Ranges.{WithinLimits}
 use Rattle.machine.specs.Worst.{worst}
 use Rattle.machine.specs.Demands.{SetUp, memoryAfter, historyOf, Seeks, HoldsSome, allAccepted, NeedsBound}
 use Rattle.machine.specs.declared.Settings.{Settings}
 use Rattle.machine.specs.declared.Event.{Event}
 use Rattle.machine.proofs.Bools.{is-true}
-use Rattle.machine.proofs.Limits.{limits, width-most}
+use Rattle.machine.proofs.Limits.{limits, permits, width-most}
 use Rattle.machine.proofs.Triangle.{half-square}
 use Rattle.machine.proofs.Fresh.{setup-permitted}
 use Rattle.machine.proofs.Outcomes.{Called, taken, refused, called}
@@ -82,9 +82,8 @@ half-most k l = let square = half-square k in omega (arith, mul-le-mul-right k l
 long : {A : Type 0} (n : ℕ) (a : A) (need : ℕ) → need ≤ n → need ≤ length (replicate n a)
 long n a need l = rw (length-replicate n a) l
 
-pub setup-takes-largest : (s : Settings) → T (permitted s) → SetUp s largest
-setup-takes-largest s fair =
-    let bounds = limits s fair in
+pub setup-takes-largest : (s : Settings) → WithinLimits s → SetUp s largest
+setup-takes-largest s bounds =
     let few = half-most (s .k) (bounds .k-most) in
-    setup-takes-long-rows s largest fair (long 256 idle (s .n) (bounds .n-most)) (long {A = ℕ} 120 0 (blocks s) few)
+    setup-takes-long-rows s largest (permits s bounds) (long 256 idle (s .n) (bounds .n-most)) (long {A = ℕ} 120 0 (blocks s) few)
     (long {A = ℕ} 30720 0 (marksNeeded s) (mul-le-mul few (width-most s bounds)))

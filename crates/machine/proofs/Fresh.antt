@@ -11,11 +11,10 @@ use borrow.Author.Tests.{le-ltb}
 use Rattle.machine.specs.Settings.{permitted}
 use Rattle.machine.specs.Places.{blocks}
 use Rattle.machine.specs.Records.{idle, isOut, recordInRange}
-use Rattle.machine.specs.Memory.{Memory, marksNeeded, stateOf, xInRange, markInRange, firstBad, outOf, fill}
+use Rattle.machine.specs.Memory.{Memory, marksNeeded, stateOf, xInRange, markInRange, firstBad, badRecord, badX, badMark, outOf, fill}
 use Rattle.machine.specs.Refusals.{first, when, outsideLimits, rowShort, noSuchTask, oneTimeRelease, wrongMoment, tooManyOut}
 use Rattle.machine.specs.Calls.{Outcome, refuseOr, verdictOf, cleared, setup}
 use Rattle.machine.specs.Demands.{SetUp}
-use Rattle.machine.specs.Edges.{Passes}
 use Rattle.machine.specs.declared.Settings.{Settings}
 use Rattle.machine.specs.declared.State.the-variants.{Idle}
 use Rattle.machine.specs.declared.Record.{Record}
@@ -66,6 +65,14 @@ module _ (s : Settings) (lent : Memory) (ok : SetUp s lent) where
   setup-memory = rw (both .0, both .1)
 
 -- ---- what is then in range
+
+-- the tests 1 to 3 are passed
+pub record Passes (s : Settings) (m : Memory) : Type 0 where
+  pub limits : T (permitted s)
+  pub rows : rowShort s (length (m .records)) (m .xs) (m .marks) ≡ false
+  pub records : ltb (badRecord s (m .records)) (s .n) ≡ false
+  pub xs : ltb (badX s (m .xs)) (blocks s) ≡ false
+  pub marks : ltb (badMark s (m .marks)) (marksNeeded s) ≡ false
 
 cleared-rows : (s : Settings) (lent : Memory) → rowShort s (length (cleared s lent .records)) (cleared s lent .xs) (cleared s lent .marks) ≡ false
 cleared-rows s lent =

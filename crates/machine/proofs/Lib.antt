@@ -9,10 +9,8 @@ pub mod Turning
 pub mod Triangle
 pub mod Searching
 pub mod Determined
--- the table of 01's edges
+-- what an accepted setup leaves
 pub mod Fresh
-pub mod OneTimePair
-pub mod Edges
 -- demands 1 and 2: refusals, the one access, surplus
 pub mod Cells
 pub mod Deciding
@@ -25,6 +23,7 @@ pub mod OneAccess
 pub mod Effects
 pub mod Surplus
 pub mod SettingUp
+pub mod Telling
 pub mod Lent
 -- demand 3: `Demand3` is where to begin
 pub mod Counting
@@ -53,6 +52,3 @@ pub mod Laps
 pub mod WorstRun
 pub mod Exact
 pub mod Demand3
--- the last line of a listing
-pub mod Greatest
-pub mod EndLine

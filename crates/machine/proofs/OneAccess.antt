@@ -5,9 +5,9 @@ use Prim.Native.Nat.{ℕ, _+_, _≤_, _<_}
 use native.Mathlib.Omega.{arith}
 use lib.Dec.{T, eqb, leb}
 use borrow.Author.Tests.{le-leb, lt-leb, leb-true}
-use Rattle.machine.specs.Settings.{permitted, width, own}
+use Rattle.machine.specs.Settings.{width, own}
 use Rattle.machine.specs.Places.{blocks, blockNumber}
-use Rattle.machine.specs.Records.{isSeeking, pointInRange, stateInRange}
+use Rattle.machine.specs.Records.{pointInRange, stateInRange}
 use Rattle.machine.specs.Memory.{Memory, stateOf}
 use Rattle.machine.specs.Turn.{pointAccess, access, releaseAccess}
 use Rattle.machine.specs.declared.Settings.{Settings}
@@ -19,19 +19,19 @@ use Rattle.machine.specs.declared.Access.the-variants.{NoAccess, MarkWri
 use Rattle.machine.specs.declared.Kind.{Kind}
 use Rattle.machine.specs.declared.Kind.the-variants.{Ask, Turn, Release}
 use Rattle.machine.specs.declared.Event.{Event}
-use Rattle.machine.proofs.Limits.{limits}
-use Rattle.machine.proofs.Ranges.{seeks-on-block, seeks-at-point, scans-a-mark}
+use Rattle.machine.specs.Ranges.{WithinLimits, StateWithin}
+use Rattle.machine.proofs.Ranges.{scans-a-mark}
+use Rattle.machine.proofs.Lines.{point-line, state-line}
 use Rattle.machine.proofs.Triangle.{block-numbering}
-use Rattle.machine.specs.Refusing.{NotTheMoment}
 use Rattle.machine.specs.OneAccess.{XNeeded, MarkNeeded, touches, RegisterNeeded, EachOneAccess, accessOf}
 use Rattle.machine.proofs.Cells.{earlier-block}
 use Rattle.machine.proofs.Passing.{Passed}
 
 -- ---- which register
 
-module _ (s : Settings) (ok : T (permitted s)) (p : ℕ) (low : p < s .n) where
+module _ (s : Settings) (l : WithinLimits s) (p : ℕ) (low : p < s .n) where
   needed-x : (r c : ℕ) → r + c + 2 ≤ s .k → XNeeded s (blockNumber s r c)
-  needed-x r c l = block-numbering s (limits s ok .k-least) .below r c (omega arith)
+  needed-x r c b = block-numbering s (l .k-least) .below r c (omega arith)
 
   needed-mark : (r c place : ℕ) → r + c + 2 ≤ s .k → place < width s → MarkNeeded s (blockNumber s r c) place
   needed-mark r c place l h =
@@ -53,11 +53,9 @@ module _ (s : Settings) (ok : T (permitted s)) (p : ℕ) (low : p < s .n) where
   point-one r c ReadX l t = (tt, needed-x r c l)
   point-one r c (Clear direction) l t = (tt, needed-mark r c (own s p) l own-mark)
 
-  turn-one : (state : State) → T (isSeeking state) → T (stateInRange s state) → T (touches (access s Turn p state)) × RegisterNeeded s (access s Turn p state)
-  turn-one Idle seeks good = absurd seeks
-  turn-one (Seeking r c point) seeks good =
-      point-one r c point (seeks-on-block s (Seeking r c point) r c point good refl) (seeks-at-point s (Seeking r c point) r c point good refl)
-  turn-one (Holding r c) seeks good = absurd seeks
+  turn-one : (r c : ℕ) (point : Point) → StateWithin s (Seeking r c point)
+      → T (touches (access s Turn p (Seeking r c point))) × RegisterNeeded s (access s Turn p (Seeking r c point))
+  turn-one r c point good = point-one r c point (good .0) (point-line s l point .1 (good .1))
 
 pub one-access : EachOneAccess
 one-access s ok p low = record {
@@ -67,27 +65,26 @@ one-access s ok p low = record {
   release-edge = λ r c e. rw (lt-leb (r + c + 2) (s .k) (let z : s .k < r + c + 2 = omega arith in z));
 }
 
--- ---- the register of a call that passed its tests, where it has one, is needed
+-- ---- the register of an access, where there is one, is needed
 
-pub release-needed : (s : Settings) → T (permitted s) → (p : ℕ) → p < s .n → (r c : ℕ) → RegisterNeeded s (releaseAccess s p (Holding r c))
-release-needed s ok p low r c = go (leb (r + c + 2) (s .k)) refl
-  where
-    go : (b : Bool) → leb (r + c + 2) (s .k) ≡ b → RegisterNeeded s (cond b (MarkWritten (blockNumber s r c) (own s p) 0) NoAccess)
-    go true e = one-access s ok p low .release-block r c (leb-true (r + c + 2) (s .k) e) .1
-    go false e = tt
+module _ (s : Settings) (l : WithinLimits s) (p : ℕ) (low : p < s .n) where
+  release-needed : (r c : ℕ) → RegisterNeeded s (releaseAccess s p (Holding r c))
+  release-needed r c = go (leb (r + c + 2) (s .k)) refl
+    where
+      go : (b : Bool) → leb (r + c + 2) (s .k) ≡ b → RegisterNeeded s (cond b (MarkWritten (blockNumber s r c) (own s p) 0) NoAccess)
+      go true e = one-access s l p low .release-block r c (leb-true (r + c + 2) (s .k) e) .1
+      go false e = tt
 
-pub access-needed : (s : Settings) (event : Event) (m : Memory) → Passed s event m → RegisterNeeded s (accessOf s event m)
-access-needed s event m h = go (event .kind) (stateOf m (event .task .0)) (h .moment) (h .in-range)
-  where
-    p : ℕ
-    p = event .task .0
+  -- of a record in range
+  pub access-needed : (kind : Kind) (state : State) → T (stateInRange s state) → RegisterNeeded s (access s kind p state)
+  access-needed Ask state good = tt
+  access-needed Turn Idle good = tt
+  access-needed Turn (Seeking r c point) good = one-access s l p low .turn r c point (state-line s l (Seeking r c point) .0 good) .1
+  access-needed Turn (Holding r c) good = tt
+  access-needed Release Idle good = tt
+  access-needed Release (Seeking r c point) good = tt
+  access-needed Release (Holding r c) good = release-needed r c
 
-    go : (kind : Kind) (state : State) → (NotTheMoment kind state → ⊥) → T (stateInRange s state) → RegisterNeeded s (access s kind p state)
-    go Ask state moment good = tt
-    go Turn Idle moment good = absurd (moment (λ t. t))
-    go Turn (Seeking r c point) moment good =
-        one-access s (h .lent .limits) p (h .task) .turn (Seeking r c point) tt good .1
-    go Turn (Holding r c) moment good = absurd (moment (λ t. t))
-    go Release Idle moment good = tt
-    go Release (Seeking r c point) moment good = tt
-    go Release (Holding r c) moment good = release-needed s (h .lent .limits) p (h .task) r c
+-- of a call that passed its tests
+pub call-needed : (s : Settings) (event : Event) (m : Memory) → Passed s event m → RegisterNeeded s (accessOf s event m)
+call-needed s event m h = access-needed s (h .lent .limits) (event .task .0) (h .task) (event .kind) (stateOf m (event .task .0)) (h .in-range)

@@ -22,17 +22,15 @@ use Rattle.machine.specs.declared.State.{State}
 use Rattle.machine.specs.declared.State.the-variants.{Idle, Seeking, Holding}
 use Rattle.machine.specs.declared.Kind.{Kind}
 use Rattle.machine.specs.declared.Kind.the-variants.{Ask, Turn, Release}
-use Rattle.machine.specs.Refusing.{NotTheMoment}
+use Rattle.machine.specs.Refusals.{wrongMoment}
 use Rattle.machine.specs.OneAccess.{AcceptedIn}
-use Rattle.machine.specs.Rules.{standsAt, freesAt, SeeksAt, xOf, markOf, longMark, oneMark, Arrives, edge, block, Moves}
-use Rattle.machine.specs.Rules.{Says, asks, write-x, long-scan-marked, long-scan-next, long-scan-last, once-scan-marked, once-scan-clear}
-use Rattle.machine.specs.Rules.{long-write-mark, once-write-mark, read-x-own, long-read-x-other, once-read-x-other, clear}
-use Rattle.machine.specs.Rules.{release-block, release-edge, EachFollowsTheRules, EachSpokenOf}
-use Rattle.machine.proofs.Limits.{Limits, limits}
+use Rattle.machine.specs.Rules.{standsAt, freesAt, SeeksAt, xOf, markOf, longMark, oneMark, Arrives, edge, block, Moves, Says, asks, write-x, long-scan-marked, long-scan-next, long-scan-last, once-scan-marked, once-scan-clear, long-write-mark, once-write-mark, read-x-own, long-read-x-other, once-read-x-other, clear, release-block, release-edge, EachFollowsTheRules, EachSpokenOf}
+use Rattle.machine.proofs.Limits.{mode-most}
+use Rattle.machine.specs.Ranges.{WithinLimits}
 use Rattle.machine.proofs.Turning as turning
 use Rattle.machine.proofs.Arriving.{arrive-edge, arrive-block, leave-at-once, leave-clearing}
 use Rattle.machine.proofs.Ranges.{seeks-on-block, seeks-at-point}
-use Rattle.machine.proofs.Seen.{two-modes, width-one-time, width-long-lived, own-one-time, own-long-lived, mark-below}
+use Rattle.machine.proofs.Seen.{width-one-time, width-long-lived, own-one-time, own-long-lived, mark-below}
 use Rattle.machine.proofs.Passing.{Passed, passed, by-the-rules}
 
 -- ---- in either mode
@@ -177,8 +175,8 @@ module _ (s : Settings) (p : ℕ) (m : Memory) where
     abbrev tests : Passed s (turn p) m
     tests = passed s (turn p) m t
 
-    abbrev fair : Limits s
-    fair = limits s (tests .lent .limits)
+    abbrev fair : WithinLimits s
+    fair = tests .lent .limits
 
     abbrev Spoken : Type 0
     Spoken = Says s p m Turn (call s (turn p) m)
@@ -223,9 +221,9 @@ module _ (s : Settings) (p : ℕ) (m : Memory) where
 
       turn-spoken : (point : Point) → SeeksAt s p m r c point → T (pointInRange s point) → Spoken
       turn-spoken WriteX at good = spoken Turn t _ (write-x at)
-      turn-spoken (Scan h) at good = scan-spoken h at (ltb→lt h (width s) good) (two-modes s fair)
-      turn-spoken WriteMark at good = write-mark-spoken at (two-modes s fair)
-      turn-spoken ReadX at good = read-spoken at (ℕ-discrete (xOf s m r c) (p + 1)) (two-modes s fair)
+      turn-spoken (Scan h) at good = scan-spoken h at (ltb→lt h (width s) good) (fair .modes)
+      turn-spoken WriteMark at good = write-mark-spoken at (fair .modes)
+      turn-spoken ReadX at good = read-spoken at (ℕ-discrete (xOf s m r c) (p + 1)) (fair .modes)
       turn-spoken (Clear direction) at good =
           spoken Turn t _ (clear (eqb→eq (s .mode) 1 good) at (going r c direction (withMark (markOf s r c p) 0 m) (at .on-block)))
 
@@ -242,19 +240,19 @@ module _ (s : Settings) (p : ℕ) (m : Memory) where
   -- ---- by the record of the task
 
   by-record : (kind : Kind) → AcceptedIn s (eventOf kind p) m → Passed s (eventOf kind p) m
-      → (state : State) → stateOf m p ≡ state → T (stateInRange s state) → (NotTheMoment kind state → ⊥) → Says s p m kind (call s (eventOf kind p) m)
-  by-record Ask t ok Idle is good moment = spoken Ask t _ (asks is (arrival 0 0 m (limits s (ok .lent .limits) .k-least)))
-  by-record Ask t ok (Seeking r c point) is good moment = absurd (moment (λ no. no))
-  by-record Ask t ok (Holding r c) is good moment = absurd (moment (λ no. no))
-  by-record Turn t ok Idle is good moment = absurd (moment (λ no. no))
+      → (state : State) → stateOf m p ≡ state → T (stateInRange s state) → (T (wrongMoment kind state) → ⊥) → Says s p m kind (call s (eventOf kind p) m)
+  by-record Ask t ok Idle is good moment = spoken Ask t _ (asks is (arrival 0 0 m (ok .lent .limits .k-least)))
+  by-record Ask t ok (Seeking r c point) is good moment = absurd (moment tt)
+  by-record Ask t ok (Holding r c) is good moment = absurd (moment tt)
+  by-record Turn t ok Idle is good moment = absurd (moment tt)
   by-record Turn t ok (Seeking r c point) is good moment =
       turn-spoken t r c point (record { stands = is; on-block = seeks-on-block s (Seeking r c point) r c point good refl })
       (seeks-at-point s (Seeking r c point) r c point good refl)
-  by-record Turn t ok (Holding r c) is good moment = absurd (moment (λ no. no))
-  by-record Release t ok Idle is good moment = absurd (moment (λ no. no))
-  by-record Release t ok (Seeking r c point) is good moment = absurd (moment (λ no. no))
+  by-record Turn t ok (Holding r c) is good moment = absurd (moment tt)
+  by-record Release t ok Idle is good moment = absurd (moment tt)
+  by-record Release t ok (Seeking r c point) is good moment = absurd (moment tt)
   by-record Release t ok (Holding r c) is good moment =
-      release-spoken t r c (omega (arith, ok .releases refl, limits s (ok .lent .limits) .mode-most)) is (leb→le (r + c + 1) (s .k) good)
+      release-spoken t r c (omega (arith, ok .releases refl, mode-most s (ok .lent .limits))) is (leb→le (r + c + 1) (s .k) good)
 
 pub each-spoken-of : EachSpokenOf
 each-spoken-of s p m kind t =

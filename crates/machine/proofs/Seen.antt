@@ -20,19 +20,12 @@ use Rattle.machine.specs.declared.Point.{Point}
 use Rattle.machine.specs.declared.Point.the-variants.{WriteX, Scan, WriteMark, ReadX, Clear}
 use Rattle.machine.specs.declared.State.{State}
 use Rattle.machine.specs.declared.State.the-variants.{Idle, Seeking, Holding}
-use Rattle.machine.proofs.Limits.{Limits}
+use Rattle.machine.specs.Ranges.{WithinLimits}
 use Rattle.machine.proofs.Triangle.{block-numbering}
 use Rattle.machine.proofs.Stands.{Rules, Stage, fresh, mid, going, holding, Stand, idle, at, Grid}
 use Rattle.machine.proofs.Moves.{PutX, PutMark}
 
 -- ---- the settings as rules
-
-pub two-modes : (s : Settings) → Limits s → (s .mode ≡ 0) ⊎ (s .mode ≡ 1)
-two-modes s l = go (eqb (s .mode) 0) refl
-  where
-    go : (b : Bool) → eqb (s .mode) 0 ≡ b → (s .mode ≡ 0) ⊎ (s .mode ≡ 1)
-    go true e = inl (eqb-true (s .mode) 0 e)
-    go false e = let z = eqb-false (s .mode) 0 e in inr (omega (arith, l .mode-most))
 
 pub width-one-time : (s : Settings) → s .mode ≡ 0 → width s ≡ 1
 width-one-time s e = rw (eq-eqb (s .mode) 0 e)
@@ -46,21 +39,21 @@ own-one-time s p e = rw (eq-eqb (s .mode) 0 e)
 pub own-long-lived : (s : Settings) (p : ℕ) → s .mode ≡ 1 → own s p ≡ p
 own-long-lived s p e = rw (ne-eqb (s .mode) 0 (λ f. omega arith))
 
-pub own-below : (s : Settings) → Limits s → (q : ℕ) → q < s .n → own s q < width s
-own-below s l q h = go (two-modes s l)
+pub own-below : (s : Settings) → WithinLimits s → (q : ℕ) → q < s .n → own s q < width s
+own-below s l q h = go (l .modes)
   where
     go : (s .mode ≡ 0) ⊎ (s .mode ≡ 1) → own s q < width s
     go (inl e) = rw (own-one-time s q e, width-one-time s e) (omega arith)
     go (inr e) = rw (own-long-lived s q e, width-long-lived s e) h
 
-pub own-whose : (s : Settings) → Limits s → (place : ℕ) → place < width s → (q : ℕ) × (q < s .n) × (own s q ≡ place)
-own-whose s l place h = go (two-modes s l)
+pub own-whose : (s : Settings) → WithinLimits s → (place : ℕ) → place < width s → (q : ℕ) × (q < s .n) × (own s q ≡ place)
+own-whose s l place h = go (l .modes)
   where
     go : (s .mode ≡ 0) ⊎ (s .mode ≡ 1) → (q : ℕ) × (q < s .n) × (own s q ≡ place)
     go (inl e) = let z : place < 1 = rw (width-one-time s e) at h in (0, l .n-least, own-one-time s 0 e ∙ omega arith)
     go (inr e) = (place, (rw (width-long-lived s e) at h), own-long-lived s place e)
 
-abbrev pub rulesOf : (s : Settings) → Limits s → Rules
+abbrev pub rulesOf : (s : Settings) → WithinLimits s → Rules
 rulesOf s l = record {
   mode = s .mode;
   n = s .n;
@@ -70,7 +63,7 @@ rulesOf s l = record {
   own-below = own-below s l;
   own-apart = λ one p q e. sym (own-long-lived s p one) ∙ e ∙ own-long-lived s q one;
   own-whose = own-whose s l;
-  modes = two-modes s l;
+  modes = l .modes;
 }
 
 -- ---- the memory as a grid
@@ -133,7 +126,7 @@ and-true : (a b : Bool) → a && b ≡ true → (a ≡ true) × (b ≡ true)
 and-true true b e = (refl, e)
 and-true false b e = absurd (true≢false (sym e))
 
-module _ (s : Settings) (l : Limits s) where
+module _ (s : Settings) (l : WithinLimits s) where
   pub block-below : (r c : ℕ) → r + c + 2 ≤ s .k → blockNumber s r c < blocks s
   block-below r c b = block-numbering s (l .k-least) .below r c (omega arith)
 

@@ -26,10 +26,11 @@ use Rattle.machine.specs.declared.State.the-variants.{Idle, Seeking, Hol
 use Rattle.machine.specs.declared.Kind.{Kind}
 use Rattle.machine.specs.declared.Kind.the-variants.{Ask, Turn, Release}
 use Rattle.machine.specs.declared.Event.{Event}
-use Rattle.machine.proofs.Limits.{Limits, limits}
+use Rattle.machine.proofs.Limits.{limits}
+use Rattle.machine.specs.Ranges.{WithinLimits}
 use Rattle.machine.proofs.Fresh.{setup-permitted, fresh-idle}
 use Rattle.machine.proofs.Stands.{Rules, Stand, idle, at, InPlace}
-use Rattle.machine.proofs.Seen.{rulesOf, two-modes, standOf}
+use Rattle.machine.proofs.Seen.{rulesOf, standOf}
 use Rattle.machine.proofs.Sound.{Sound}
 use Rattle.machine.proofs.Steps.{arrives, in-place, caller-after, others-after, caller-moves}
 use Rattle.machine.proofs.Outcomes.{Called, taken, refused, accepted, accepted-answer, called, open-accepted}
@@ -58,8 +59,8 @@ out-within R idle t h = tt
 out-within R (at r c g) t h = h
 
 -- the bound is enough for k - 1 blocks
-pub bound-enough : (s : Settings) (l : Limits s) → cost (rulesOf s l) * (s .k - 1) ≤ bound s
-bound-enough s l = go (two-modes s l)
+pub bound-enough : (s : Settings) (l : WithinLimits s) → cost (rulesOf s l) * (s .k - 1) ≤ bound s
+bound-enough s l = go (l .modes)
   where
     go : (s .mode ≡ 0) ⊎ (s .mode ≡ 1) → cost (rulesOf s l) * (s .k - 1) ≤ bound s
     go (inl e) = rw (eq-eqb (s .mode) 0 e) (mul-le-mul-right (s .k - 1) (omega arith))

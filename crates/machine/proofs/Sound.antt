@@ -13,12 +13,11 @@ use borrow.Author.Tests.{eq-eqb, le-ltb, ltb-false}
 use Rattle.machine.specs.Settings.{permitted, width}
 use Rattle.machine.specs.Places.{blocks}
 use Rattle.machine.specs.Records.{idle, pointInRange, stateInRange, recordInRange}
-use Rattle.machine.specs.Memory.{Memory, marksNeeded, markIndex, recordOf, stateOf, withRecord, withX, withMark}
-use Rattle.machine.specs.Memory.{xInRange, markInRange, badRecord, badX, badMark}
+use Rattle.machine.specs.Memory.{Memory, marksNeeded, markIndex, recordOf, stateOf, withRecord, withX, withMark, xInRange, markInRange, badRecord, badX, badMark}
 use Rattle.machine.specs.Turn.{access, pointAccess, value, store, arrive, move, leave, pointTurned}
 use Rattle.machine.specs.Refusals.{wrongMoment}
 use Rattle.machine.specs.Calls.{nextState, accept}
-use Rattle.machine.specs.Edges.{Passes}
+use Rattle.machine.proofs.Fresh.{Passes}
 use Rattle.machine.specs.declared.Settings.{Settings}
 use Rattle.machine.specs.declared.Direction.{Direction}
 use Rattle.machine.specs.declared.Direction.the-variants.{Right, Down}
@@ -32,7 +31,8 @@ use Rattle.machine.specs.declared.Access.the-variants.{NoAccess, XRead, 
 use Rattle.machine.specs.declared.Kind.{Kind}
 use Rattle.machine.specs.declared.Kind.the-variants.{Ask, Turn, Release}
 use Rattle.machine.proofs.Bools.{and-in, and-l, and-r}
-use Rattle.machine.proofs.Limits.{Limits, width-least}
+use Rattle.machine.proofs.Limits.{mode-most, width-least}
+use Rattle.machine.specs.Ranges.{WithinLimits}
 use Rattle.machine.proofs.Turning.{scan-marked, scan-done, scan-on, reads-own, reads-other}
 use Rattle.machine.proofs.Searching.{none-bad, none-bad-all}
 use Rattle.machine.proofs.Arriving.{arrive-edge, arrive-block, leave-at-once, leave-clearing, release-clears, release-nothing}
@@ -91,7 +91,7 @@ Writes s (XWritten block v) = T (xInRange s v)
 Writes s (MarkRead block place) = Unit {0}
 Writes s (MarkWritten block place v) = T (markInRange v)
 
-module _ (s : Settings) (l : Limits s) where
+module _ (s : Settings) (l : WithinLimits s) where
   block-in-range : (r c : ℕ) (point : Point) → r + c + 2 ≤ s .k → T (pointInRange s point) → T (stateInRange s (Seeking r c point))
   block-in-range r c point b t = and-in (leb (r + c + 2) (s .k)) (pointInRange s point) (le→leb (r + c + 2) (s .k) b) t
 
@@ -113,7 +113,7 @@ module _ (s : Settings) (l : Limits s) where
       go (yes e) = subst (λ (to : State). T (stateInRange s to)) (leave-at-once s r c d e) (move-in-range r c d b)
       go (no n) =
           subst (λ (to : State). T (stateInRange s to)) (leave-clearing s r c d n)
-          (block-in-range r c (Clear d) b (rw (eq-eqb (s .mode) 1 (omega (arith, l .mode-most))) tt))
+          (block-in-range r c (Clear d) b (rw (eq-eqb (s .mode) 1 (omega (arith, mode-most s l))) tt))
 
   turned-in-range : (p v r c : ℕ) (point : Point) → r + c + 2 ≤ s .k → T (pointInRange s point) → T (stateInRange s (pointTurned s p r c point v))
   turned-in-range p v r c WriteX b t = block-in-range r c (Scan 0) b (lt→ltb 0 (width s) (width-least s l))
@@ -212,7 +212,7 @@ module _ (s : Settings) (m : Memory) (h : Sound s m) where
   store-sound (MarkRead b place) w = h
   store-sound (MarkWritten b place v) w = subst (Sound s) (mark-stored b place v) (mark-sound (markIndex s b place) v w)
 
-pub accept-sound : (s : Settings) → Limits s → (kind : Kind) (p : ℕ) (m : Memory) → Sound s m → p < s .n → wrongMoment kind (stateOf m p) ≡ false
+pub accept-sound : (s : Settings) → WithinLimits s → (kind : Kind) (p : ℕ) (m : Memory) → Sound s m → p < s .n → wrongMoment kind (stateOf m p) ≡ false
     → Sound s (accept s kind p (stateOf m p) m .memory)
 accept-sound s fair kind p m h l e =
     record-sound s (store s (access s kind p (stateOf m p)) m)

@@ -31,19 +31,18 @@ use Rattle.machine.specs.declared.Access.the-variants.{NoAccess, XRead, 
 use Rattle.machine.specs.declared.Kind.{Kind}
 use Rattle.machine.specs.declared.Kind.the-variants.{Ask, Turn, Release}
 use Rattle.machine.proofs.Bools.{and-l, and-r}
-use Rattle.machine.proofs.Limits.{Limits}
+use Rattle.machine.specs.Ranges.{WithinLimits}
+use Rattle.machine.proofs.Limits.{mode-most}
 use Rattle.machine.proofs.Turning.{scan-marked, scan-done, scan-on, reads-own, reads-other}
 use Rattle.machine.proofs.Stands.{Rules, mid, at, InPlace}
-use Rattle.machine.proofs.Moves.{Arrives, block, edge, Goes, Leaves, at-once, clearing, Move, Step}
-use Rattle.machine.proofs.Moves.{Effect, nothing, writes-x, writes-mark, XChange, MarkChange}
-use Rattle.machine.proofs.Moves.{asks, begins, passes, meets, marks, wins, loses, clears, frees, departs}
-use Rattle.machine.proofs.Seen.{two-modes, own-below, rulesOf, stageOf, standOf, xAt, markAt, gridOf, x-on-block, mark-on-block, x-put, mark-put}
+use Rattle.machine.proofs.Moves.{Arrives, block, edge, Goes, Leaves, at-once, clearing, Move, Step, Effect, nothing, writes-x, writes-mark, XChange, MarkChange, asks, begins, passes, meets, marks, wins, loses, clears, frees, departs}
+use Rattle.machine.proofs.Seen.{own-below, rulesOf, stageOf, standOf, xAt, markAt, gridOf, x-on-block, mark-on-block, x-put, mark-put}
 use Rattle.machine.proofs.Arriving.{arrive-edge, arrive-block, leave-at-once, leave-clearing, release-clears, release-nothing}
 use Rattle.machine.proofs.Sound.{Sound}
 
 -- ---- where a task comes to
 
-module _ (s : Settings) (l : Limits s) where
+module _ (s : Settings) (l : WithinLimits s) where
   pub arrives : (r c : ℕ) → r + c + 1 ≤ s .k → Arrives (s .k) r c (standOf (width s) (arrive s r c))
   arrives r c b = go (ℕ-discrete (r + c + 1) (s .k))
     where
@@ -56,7 +55,7 @@ module _ (s : Settings) (l : Limits s) where
   goes r c Down b = arrives (r + 1) c (omega arith)
 
   leaves : (r c : ℕ) (d : Direction) → r + c + 2 ≤ s .k → Leaves (rulesOf s l) r c d (standOf (width s) (leave s r c d))
-  leaves r c d b = go (two-modes s l)
+  leaves r c d b = go (l .modes)
     where
       go : (s .mode ≡ 0) ⊎ (s .mode ≡ 1) → Leaves (rulesOf s l) r c d (standOf (width s) (leave s r c d))
       go (inl e) = subst (λ (to : State). Leaves (rulesOf s l) r c d (standOf (width s) to)) (leave-at-once s r c d e) (at-once e (goes r c d b))
@@ -89,7 +88,7 @@ records-after s (XWritten b v) m p new = refl
 records-after s (MarkRead b place) m p new = refl
 records-after s (MarkWritten b place v) m p new = refl
 
-module _ (s : Settings) (l : Limits s) (m : Memory) (h : Sound s m) (p : ℕ) (below : p < s .n) where
+module _ (s : Settings) (l : WithinLimits s) (m : Memory) (h : Sound s m) (p : ℕ) (below : p < s .n) where
   abbrev rules : Rules
   rules = rulesOf s l
 
@@ -206,7 +205,7 @@ module _ (s : Settings) (l : Limits s) (m : Memory) (h : Sound s m) (p : ℕ) (b
   moved Release (Seeking r c point) once e t = absurd (true≢false e)
   moved Release (Holding r c) once e t =
       let z = eqb-false (s .mode) 0 once in
-      release-moved r c (omega (arith, l .mode-most)) (leb→le (r + c + 1) (s .k) t)
+      release-moved r c (omega (arith, mode-most s l)) (leb→le (r + c + 1) (s .k) t)
 
   -- ---- the step
 

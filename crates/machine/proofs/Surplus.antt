@@ -28,7 +28,7 @@ use Rattle.machine.specs.OneAccess.{RegisterNeeded, accessOf, AcceptedIn
 use Rattle.machine.specs.Surplus.{needed, surplus, SurplusNeverChanges, SurplusNeverBears}
 use Rattle.machine.proofs.Refusing.{ruled, started, ruled-accepted}
 use Rattle.machine.proofs.Passing.{passed}
-use Rattle.machine.proofs.OneAccess.{access-needed}
+use Rattle.machine.proofs.OneAccess.{call-needed}
 
 -- two memories with the same rows are the same
 pub same-rows : {m m′ : Memory} → m .records ≡ m′ .records → m .xs ≡ m′ .xs → m .marks ≡ m′ .marks → m ≡ m′
@@ -63,7 +63,7 @@ call-surplus s event m = go (verdictOf s event m) refl
         → surplus s (refuseOr verdict m (ruled s event m) .memory) ≡ surplus s m
     go Verdict.Accepted e =
         let h = passed s event m (accepted-in s event m e) in
-        record-surplus s _ (event .task .0) _ (h .task) ∙ store-surplus s m (accessOf s event m) (access-needed s event m h)
+        record-surplus s _ (event .task .0) _ (h .task) ∙ store-surplus s m (accessOf s event m) (call-needed s event m h)
     go (Verdict.Refused why) e = refl
 
 setup-surplus : (s : Settings) (m : Memory) → surplus s (setup s m .memory) ≡ surplus s m
@@ -161,7 +161,7 @@ call-cut s event m = rw (same-verdict s m event) (go (verdictOf s event m) refl)
         let p = event .task .0 in
         let state = ap (λ (r : Record). r .state) (getD-take (s .n) (m .records) p idle (h .task)) in
         ap (λ (st : State). accept s (event .kind) p st (needed s m)) state
-        ∙ accept-cut s (event .kind) p (stateOf m p) m (h .task) (access-needed s event m h)
+        ∙ accept-cut s (event .kind) p (stateOf m p) m (h .task) (call-needed s event m h)
     go (Verdict.Refused why) e = refl
 
 setup-cut : (s : Settings) (m : Memory) → setup s (needed s m) ≡ cut s (setup s m)

@@ -14,10 +14,11 @@ use Rattle.machine.specs.Memory.{Memory, stateOf}
 use Rattle.machine.specs.Turn.{pointAccess, value, arrive, move, leave, pointTurned}
 use Rattle.machine.specs.Refusals.{wrongMoment}
 use Rattle.machine.specs.Answers.{isAccepted}
-use Rattle.machine.specs.Calls.{Outcome, standing, answerOf, nextState, call, setup, release}
+use Rattle.machine.specs.Calls.{Outcome, nameAt, standing, answerOf, nextState, call, setup, release}
 use Rattle.machine.specs.History.{run, history}
-use Rattle.machine.specs.Demands.{SetUp, memoryAfter, lastAnswer, TrueOf, LastAnswerTrue, Told}
+use Rattle.machine.specs.Demands.{SetUp, memoryAfter, historyOf, lastAnswer, TrueOf, LastAnswerTrue, Told}
 use Rattle.machine.specs.declared.Settings.{Settings}
+use Rattle.machine.specs.declared.Name.{Name}
 use Rattle.machine.specs.declared.Direction.{Direction}
 use Rattle.machine.specs.declared.Direction.the-variants.{Right, Down}
 use Rattle.machine.specs.declared.Point.{Point}
@@ -31,6 +32,7 @@ use Rattle.machine.specs.declared.Answer.{Answer}
 use Rattle.machine.proofs.Limits.{limits}
 use Rattle.machine.proofs.Fresh.{setup-permitted, fresh-idle}
 use Rattle.machine.proofs.Sound.{Sound}
+use Rattle.machine.proofs.Telling.{tells}
 use Rattle.machine.proofs.Steps.{caller-after, others-after}
 use Rattle.machine.proofs.Outcomes.{Open, Called, taken, refused, accepted-answer, called, open-accepted}
 use Rattle.machine.proofs.Histories.{Fine, fine-kept, fresh-fine, always-fine}
@@ -135,7 +137,13 @@ pub told : (s : Settings) (lent : Memory) (events : List Event) → SetUp s lent
 told s lent events ok p r c l e =
     let fair = setup-permitted s lent ok in
     let m = memoryAfter s lent events in
+    let named : Name = nameAt s r c in
+    let heard : lastAnswer p (historyOf s lent events) Answer.Done ≡ Answer.Holds named = rw e at (last-answer-true s lent events ok p l) in
+    let freed : s .mode ≡ 1 → call s (release p) m .answer ≡ Answer.Freed named = λ one.
+    rw (open-accepted s fair (release p) m (always-fine s lent ok events .good .sound) (holder-open s m p r c l one e), e) in
     record {
-      answered = rw e at (last-answer-true s lent events ok p l);
-      freed = λ one. rw (open-accepted s fair (release p) m (always-fine s lent ok events .good .sound) (holder-open s m p r c l one e), e);
+      answered = heard;
+      answer-tells = tells _ (Answer.Holds named) (named .0 ∷ []) heard (refl, refl) .1;
+      freed = freed;
+      freed-tells = λ one. tells _ (Answer.Freed named) (named .0 ∷ []) (freed one) (refl, refl) .1;
     }

@@ -28,7 +28,7 @@ use Rattle.machine.proofs.Limits.{limits, width-least}
 use Rattle.machine.proofs.Fresh.{setup-permitted, fresh-idle, fresh-none-out}
 use Rattle.machine.proofs.Turning.{reads-other}
 use Rattle.machine.proofs.Arriving.{leave-at-once, leave-clearing}
-use Rattle.machine.proofs.Seen.{two-modes, own-below, gridOf, x-on-block, mark-on-block, x-put, mark-put}
+use Rattle.machine.proofs.Seen.{own-below, gridOf, x-on-block, mark-on-block, x-put, mark-put}
 use Rattle.machine.proofs.Histories.{Fine, fresh-fine, fresh-unmarked, one-more-out}
 use Rattle.machine.proofs.Leads.{Leads, leads-more, leads-append, leads-nowhere}
 use Rattle.machine.proofs.Laps.{Took, turn-took, ask-took, Lap, lap-over, lap-more, laps}
@@ -81,7 +81,7 @@ module _ (s : Settings) (fair : T (permitted s)) where
 
   second-lap : (r n p : ℕ) → r + 2 ≤ s .k → p < n → p < s .n → (m : Memory) → Fine s fair m → Lost r n m → stateOf m p ≡ Seeking r 0 WriteMark
       → Lap s fair (Lost r n) p (arrive s (r + 1) 0) (turns (s .mode + 2) p) m
-  second-lap r n p b h l m f lost is = go (two-modes s (limits s fair))
+  second-lap r n p b h l m f lost is = go (limits s fair .modes)
     where
       m₁ : Memory
       m₁ = accept s Turn p (Seeking r 0 WriteMark) m .memory

@@ -15,8 +15,8 @@ use Rattle.machine.specs.Worst.{turns, each, worstRow, worstRows, worst}
 use Rattle.machine.specs.Demands.{bound}
 use Rattle.machine.specs.declared.Settings.{Settings}
 use Rattle.machine.specs.declared.Event.{Event}
-use Rattle.machine.proofs.Limits.{Limits}
-use Rattle.machine.proofs.Seen.{two-modes, rulesOf}
+use Rattle.machine.specs.Ranges.{WithinLimits}
+use Rattle.machine.proofs.Seen.{rulesOf}
 use Rattle.machine.proofs.Spent.{cost}
 use Rattle.machine.proofs.Served.{bound-enough}
 use Rattle.machine.proofs.Leads.{EndsWith, ends-alone, ends-append, ends-nil, writtenTurns, written-append}
@@ -70,14 +70,14 @@ module _ (s : Settings) where
       sum t n each = omega arith
 
   -- and k - 1 of them are worth the bound
-  bound-needed : (l : Limits s) → bound s ≤ cost (rulesOf s l) * (s .k - 1)
-  bound-needed l = go (two-modes s l)
+  bound-needed : (l : WithinLimits s) → bound s ≤ cost (rulesOf s l) * (s .k - 1)
+  bound-needed l = go (l .modes)
     where
       go : (s .mode ≡ 0) ⊎ (s .mode ≡ 1) → bound s ≤ cost (rulesOf s l) * (s .k - 1)
       go (inl e) = rw (eq-eqb (s .mode) 0 e) (mul-le-mul-right (s .k - 1) (omega arith))
       go (inr e) = rw (ne-eqb (s .mode) 0 (λ z. omega arith)) (mul-le-mul-right (s .k - 1) (omega arith))
 
-  pub worst-turns : (l : Limits s) → writtenTurns 0 (worst s) 0 ≡ bound s
+  pub worst-turns : (l : WithinLimits s) → writtenTurns 0 (worst s) 0 ≡ bound s
   worst-turns l =
       written-append 0 (each (λ p. ask p ∷ []) (s .k)) (worstRows s (s .k - 1)) 0
       ∙ ap (writtenTurns 0 (worstRows s (s .k - 1))) (all-asks (s .k) (l .k-least))
@@ -117,7 +117,7 @@ module _ (s : Settings) where
     pub its : last .task .0 ≡ 0
     pub late : 1 < s .k → last ≡ turn 0
 
-  pub worst-last : Limits s → LastOwn
+  pub worst-last : WithinLimits s → LastOwn
   worst-last l = go (decLt 1 (s .k))
     where
       go : Dec (1 < s .k) → LastOwn

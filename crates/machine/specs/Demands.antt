@@ -5,14 +5,13 @@ use mathlib.Core.Bool.{Bool, true, false, cond, _&&_}
 use mathlib.Core.List.{List, [], _∷_, _++_}
 use Prim.Native.Nat.{ℕ, _+_, _-_, _*_, _≤_, _<_}
 use lib.Dec.{T, eqb}
-use Rattle.machine.specs.Settings.{permitted}
 use Rattle.machine.specs.Places.{names, nameNumber}
 use Rattle.machine.specs.Records.{isSeeking, isHolding}
-use Rattle.machine.specs.Memory.{Memory, stateOf}
-use Rattle.machine.specs.Answers.{isAccepted}
+use Rattle.machine.specs.Memory.{Memory, stateOf, largest}
+use Rattle.machine.specs.Answers.{said, isAccepted}
 use Rattle.machine.specs.Calls.{nameAt, call, setup, turn, release}
+use Rattle.machine.specs.Ranges.{WithinLimits}
 use Rattle.machine.specs.History.{run, Answered, history, turnsOf}
-use Rattle.machine.specs.Listing.{largest}
 use Rattle.machine.specs.Worst.{turns, worst}
 use Rattle.machine.specs.declared.Settings.{Settings}
 use Rattle.machine.specs.declared.State.{State}
@@ -49,6 +48,10 @@ Seeks m p = T (isSeeking (stateOf m p))
 
 abbrev pub HoldsSome : Memory → ℕ → Type 0
 HoldsSome m p = T (isHolding (stateOf m p))
+
+-- an answer is an acceptance, and these are the values beside it
+abbrev pub Tells : Answer → List ℕ → Type 0
+Tells answer values = (said answer .number ≡ 0) × (said answer .values ≡ values)
 
 -- what the last accepted call of task p answered; `before` where there was none
 abbrev pub lastAnswer : ℕ → List Answered → Answer → Answer
@@ -90,10 +93,13 @@ LastAnswerTrue =
     (s : Settings) (lent : Memory) (events : List Event) → SetUp s lent → (p : ℕ) → p < s .n
     → TrueOf s (stateOf (memoryAfter s lent events) p) (lastAnswer p (historyOf s lent events) Answer.Done)
 
--- the name that a task holds is the one that it was last answered, and the one that its release answers
+-- the name that a task holds is the one that it was last answered, and the one that its release answers; both answers are acceptances whose one
+-- value is the name
 pub record Told (s : Settings) (lent : Memory) (events : List Event) (p n : ℕ) : Type 0 where
   pub answered : lastAnswer p (historyOf s lent events) Answer.Done ≡ Answer.Holds (record { 0 = n })
+  pub answer-tells : Tells (lastAnswer p (historyOf s lent events) Answer.Done) (n ∷ [])
   pub freed : s .mode ≡ 1 → call s (release p) (memoryAfter s lent events) .answer ≡ Answer.Freed (record { 0 = n })
+  pub freed-tells : s .mode ≡ 1 → Tells (call s (release p) (memoryAfter s lent events) .answer) (n ∷ [])
 
 abbrev pub HeldNameAnswered : Type 0
 HeldNameAnswered =
@@ -139,4 +145,4 @@ BoundExact = (s : Settings) (lent : Memory) → SetUp s lent → NeedsBound s le
 
 -- setup of a memory with rows long enough is accepted, so none of the above is empty
 abbrev pub SetupTakes : Type 0
-SetupTakes = (s : Settings) → T (permitted s) → SetUp s largest
+SetupTakes = (s : Settings) → WithinLimits s → SetUp s largest

@@ -8,16 +8,14 @@ pub mod Refusals
 pub mod Answers
 pub mod Calls
 pub mod History
-pub mod File
-pub mod Listing
 pub mod Lent
 -- What is promised of them.
 pub mod Worst
 pub mod Demands
-pub mod EndLine
-pub mod Edges
+pub mod Ranges
 pub mod Refusing
 pub mod Rules
 pub mod OneAccess
 pub mod Surplus
 pub mod SettingUp
+pub mod Telling

@@ -6,7 +6,7 @@ use lib.Dec.{leb, ltb}
 use lib.ListN.{length, getD, set, replicate, drop}
 use Rattle.machine.specs.Settings.{width}
 use Rattle.machine.specs.Places.{blocks}
-use Rattle.machine.specs.Records.{idle, isOut, isHolding, recordInRange}
+use Rattle.machine.specs.Records.{idle, isOut, recordInRange}
 use Rattle.machine.specs.declared.Settings.{Settings}
 use Rattle.machine.specs.declared.State.{State}
 use Rattle.machine.specs.declared.Record.{Record}
@@ -80,12 +80,9 @@ badX s xs = firstBad (λ block. xInRange s (getD xs block 0)) (blocks s)
 abbrev pub badMark : Settings → List ℕ → ℕ
 badMark s marks = firstBad (λ index. markInRange (getD marks index 0)) (marksNeeded s)
 
--- how many of the N tasks are out, and how many hold
+-- how many of the N tasks are out
 abbrev pub outOf : Settings → List Record → ℕ
 outOf s records = count (λ p. isOut (getD records p idle .state)) (s .n)
-
-abbrev pub holdersOf : Settings → List Record → ℕ
-holdersOf s records = count (λ p. isHolding (getD records p idle .state)) (s .n)
 
 -- what a call of task p sees of the records
 abbrev pub viewOf : Settings → List Record → ℕ → View
@@ -96,3 +93,7 @@ viewOf s records p = record { length = length records; bad = badRecord s records
 -- the first n elements become a, the surplus stays
 abbrev pub fill : {A : Type 0} → ℕ → A → List A → List A
 fill n a l = replicate n a ++ drop n l
+
+-- rows that are long enough for every permitted setting, as `gridlist` lends them
+abbrev pub largest : Memory
+largest = record { records = replicate 256 idle; xs = replicate 120 0; marks = replicate 30720 0 }

@@ -7,16 +7,17 @@ use mathlib.Core.List.{List}
 use Prim.Native.Nat.{ℕ, _+_, _≤_, _<_}
 use lib.Dec.{T}
 use lib.ListN.{length, getD}
-use Rattle.machine.specs.Settings.{permitted, width, own}
+use Rattle.machine.specs.Settings.{width, own}
 use Rattle.machine.specs.Places.{blocks, blockNumber}
-use Rattle.machine.specs.Records.{isSeeking, stateInRange}
 use Rattle.machine.specs.Memory.{Memory, marksNeeded, markIndex, recordOf, stateOf}
 use Rattle.machine.specs.Turn.{access}
 use Rattle.machine.specs.Answers.{isAccepted}
 use Rattle.machine.specs.Calls.{nextState, call}
+use Rattle.machine.specs.Ranges.{WithinLimits, StateWithin}
 use Rattle.machine.specs.declared.Settings.{Settings}
+use Rattle.machine.specs.declared.Point.{Point}
 use Rattle.machine.specs.declared.State.{State}
-use Rattle.machine.specs.declared.State.the-variants.{Holding}
+use Rattle.machine.specs.declared.State.the-variants.{Seeking, Holding}
 use Rattle.machine.specs.declared.Access.{Access}
 use Rattle.machine.specs.declared.Access.the-variants.{NoAccess, XRead, XWritten, MarkRead, MarkWritten}
 use Rattle.machine.specs.declared.Kind.the-variants.{Ask, Turn, Release}
@@ -51,13 +52,14 @@ RegisterNeeded s (MarkWritten block place v) = MarkNeeded s block place
 -- otherwise no access"
 pub record OneAccess (s : Settings) (p : ℕ) : Type 0 where
   pub ask : (state : State) → access s Ask p state ≡ NoAccess
-  pub turn : (state : State) → T (isSeeking state) → T (stateInRange s state) → T (touches (access s Turn p state)) × RegisterNeeded s (access s Turn p state)
+  pub turn : (r c : ℕ) (point : Point) → StateWithin s (Seeking r c point)
+      → T (touches (access s Turn p (Seeking r c point))) × RegisterNeeded s (access s Turn p (Seeking r c point))
   pub release-block : (r c : ℕ) → r + c + 2 ≤ s .k
       → (access s Release p (Holding r c) ≡ MarkWritten (blockNumber s r c) (own s p) 0) × MarkNeeded s (blockNumber s r c) (own s p)
   pub release-edge : (r c : ℕ) → r + c + 1 ≡ s .k → access s Release p (Holding r c) ≡ NoAccess
 
 abbrev pub EachOneAccess : Type 0
-EachOneAccess = (s : Settings) → T (permitted s) → (p : ℕ) → p < s .n → OneAccess s p
+EachOneAccess = (s : Settings) → WithinLimits s → (p : ℕ) → p < s .n → OneAccess s p
 
 -- ---- what shows of it
 

@@ -2,32 +2,23 @@
 -- Theorem: `setup-clears`.
 use mathlib.Core.Path.{_≡_}
 use mathlib.Core.Logic.{_↔_}
-use Prim.Native.Nat.{_≤_}
-use lib.Dec.{T}
-use lib.ListN.{length, replicate}
-use Rattle.machine.specs.Settings.{permitted}
+use lib.ListN.{replicate}
 use Rattle.machine.specs.Places.{blocks}
 use Rattle.machine.specs.Records.{idle}
 use Rattle.machine.specs.Memory.{Memory, marksNeeded}
 use Rattle.machine.specs.Calls.{setup}
 use Rattle.machine.specs.declared.Settings.{Settings}
 use Rattle.machine.specs.declared.Answer.{Answer}
+use Rattle.machine.specs.Refusing.{NoneHolds, setupLines}
 use Rattle.machine.specs.Surplus.{needed}
-
--- the settings are within the limits, and each lent row is as long as needed
-pub record Lendable (s : Settings) (m : Memory) : Type 0 where
-  pub limits : T (permitted s)
-  pub records : s .n ≤ length (m .records)
-  pub xs : blocks s ≤ length (m .xs)
-  pub marks : marksNeeded s ≤ length (m .marks)
 
 -- N records idle, all X 0 and all marks 0
 abbrev pub clear : Settings → Memory
 clear s = record { records = replicate (s .n) idle; xs = replicate (blocks s) 0; marks = replicate (marksNeeded s) 0 }
 
 pub record SetupClears (s : Settings) (m : Memory) : Type 0 where
-  pub done : (setup s m .answer ≡ Answer.Done) ↔ Lendable s m
-  pub clears : Lendable s m → needed s (setup s m .memory) ≡ clear s
+  pub done : (setup s m .answer ≡ Answer.Done) ↔ NoneHolds (setupLines s m)
+  pub clears : NoneHolds (setupLines s m) → needed s (setup s m .memory) ≡ clear s
 
 abbrev pub EachSetupClears : Type 0
 EachSetupClears = (s : Settings) (m : Memory) → SetupClears s m

@@ -9,7 +9,8 @@ use Rattle.machine.specs.Settings.{width}
 use Rattle.machine.specs.Places.{half, placeNumber, blocks}
 use Rattle.machine.specs.Memory.{marksNeeded, markIndex}
 use Rattle.machine.specs.declared.Settings.{Settings}
-use Rattle.machine.proofs.Limits.{Limits, width-most}
+use Rattle.machine.proofs.Limits.{width-most}
+use Rattle.machine.specs.Ranges.{WithinLimits}
 
 -- products of the grid's numbers fit, also with one more such number added
 module _ (a b : ℕ) (small-a : a ≤ 256) (small-b : b ≤ 256) where
@@ -31,14 +32,14 @@ pub half-small : (r : ℕ) → r ≤ 16 → half r ≤ 120
 unfolding half
 half-small r small = omega (arith, mul-le-mul {n₁ = r} {m₁ = r - 1} {n₂ = 16} {m₂ = 15} small (omega arith))
 
-pub blocks-most : (s : Settings) → Limits s → blocks s ≤ 120
+pub blocks-most : (s : Settings) → WithinLimits s → blocks s ≤ 120
 blocks-most s limit = half-small (s .k) (limit .k-most)
 
 -- all blocks have a count of marks, and each the same
 pub marks-of : (s : Settings) (count each : ℕ) → count ≡ blocks s → each ≡ width s → count * each ≡ marksNeeded s
 marks-of s count each many wide = rw (many, wide)
 
-pub marks-most : (s : Settings) → Limits s → marksNeeded s ≤ 30720
+pub marks-most : (s : Settings) → WithinLimits s → marksNeeded s ≤ 30720
 marks-most s limit = mul-le-mul {n₁ = blocks s} {m₁ = width s} {n₂ = 120} {m₂ = 256} (blocks-most s limit) (width-most s limit)
 
 pub mark-index-below : (s : Settings) (block place : ℕ) → block < blocks s → place < width s → markIndex s block place < marksNeeded s

@@ -1,19 +1,18 @@
 -- What an accepted verdict tells of the settings, the rows and the task.
-use mathlib.Core.Path.{_≡_}
-use mathlib.Core.Bool.{Bool, true, false, not}
+use mathlib.Core.Path.{_≡_, sym, subst}
+use mathlib.Core.Bool.{false}
 use mathlib.Core.List.{List}
 use Prim.Native.Nat.{ℕ, _<_}
 use lib.Dec.{T, ltb, leb}
-use borrow.Author.Tests.{leb-false}
+use borrow.Author.Tests.{leb-false, not-false}
 use Rattle.machine.specs.Settings.{permitted}
 use Rattle.machine.specs.Records.{recordInRange}
-use Rattle.machine.specs.Refusals.{rowShort, wrongMoment, lentCases, rangeCases, taskCases, verdict}
+use Rattle.machine.specs.Refusals.{wrongMoment, lentCases, rangeCases, taskCases, verdict}
 use Rattle.machine.specs.declared.Settings.{Settings}
 use Rattle.machine.specs.declared.View.{View}
 use Rattle.machine.specs.declared.Kind.{Kind}
 use Rattle.machine.specs.declared.Verdict.{Verdict}
-use Rattle.machine.proofs.Bools.{is-false}
-use Rattle.machine.proofs.Deciding.{first-decides}
+use Rattle.machine.proofs.Deciding.{no-case}
 use Rattle.rules.specs.Decision.{Sees}
 use Rattle.rules.proofs.Rows.{Long, none-short}
 
@@ -24,20 +23,17 @@ pub record Accepts (s : Settings) (kind : Kind) (p : ℕ) (seen : View) (xs mark
   pub known : p < s .n
   pub moment : wrongMoment kind (seen .own .state) ≡ false
 
-not-not : (b : Bool) → (T (not b) → ⊥) → T b
-not-not true f = tt
-not-not false f = f tt
-
 pub accepts : (s : Settings) (kind : Kind) (p : ℕ) (seen : View) (xs marks : List ℕ) → verdict s kind p seen xs marks ≡ Verdict.Accepted
     → Accepts s kind p seen xs marks
 accepts s kind p seen xs marks e =
-    let none = first-decides (lentCases s seen xs marks (rangeCases s seen xs marks (taskCases s kind p seen))) .accepted .0 e in
+    let (inside, (long, (records, (x-numbers, (mark-row, (known, (lived, (moment, last)))))))) =
+    no-case (lentCases s seen xs marks (rangeCases s seen xs marks (taskCases s kind p seen))) e in
     record {
-      limits = not-not (permitted s) (none .0);
-      long = none-short s (seen .length) xs marks (is-false (rowShort s (seen .length) xs marks) (none .1 .0));
-      none-bad = is-false (ltb (seen .bad) (s .n)) (none .1 .1 .0);
-      known = leb-false (s .n) p (is-false (leb (s .n) p) (none .1 .1 .1 .1 .1 .0));
-      moment = is-false (wrongMoment kind (seen .own .state)) (none .1 .1 .1 .1 .1 .1 .1 .0);
+      limits = subst T (sym (not-false (permitted s) inside)) tt;
+      long = none-short s (seen .length) xs marks long;
+      none-bad = records;
+      known = leb-false (s .n) p known;
+      moment = moment;
     }
 
 -- the task's own record is then in range

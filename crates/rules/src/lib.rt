@@ -214,14 +214,7 @@ fn task_verdict(s: Settings, kind: Kind, seen: View, task: TaskId) -> Verdict
 }
 
 // What the tests of ask, turn and release say: 1 to 7 ascending.
-fn verdict(
-    s: Settings,
-    kind: Kind,
-    seen: View,
-    xs: &[u32],
-    marks: &[u8],
-    task: TaskId,
-) -> Verdict
+fn verdict(s: Settings, kind: Kind, seen: View, xs: &[u32], marks: &[u8], task: TaskId) -> Verdict
     ensures { λ v. ⌜ v ≡ verdict s kind (task .0) seen (now (xs .entry)) (now (marks .entry)) ⌝ }
 {
     match lent_verdict(s, seen, xs, marks) {

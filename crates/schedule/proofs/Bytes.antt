@@ -7,18 +7,11 @@ use native.Mathlib.Numerals.{add-one}
 use native.Mathlib.Omega.{arith}
 use lib.ListN.{length, take, drop, set, getD, length-set}
 use lib.Seq.{take-suc, length-take-le, sets, length-sets, sets-eq}
-use Rattle.machine.specs.File.{wordBytes, eventBytes, eventsBytes, headerBytes, fileBytes, fileLength}
+use Rattle.file.specs.File.{wordBytes, eventBytes, eventsBytes, headerBytes, fileBytes, fileLength}
 use Rattle.machine.specs.declared.Settings.{Settings}
+use Rattle.file.proofs.Lengths.{length-events, length-file}
 use Rattle.text.specs.Put.{put}
 use Rattle.text.proofs.Putting.{length-put, put-byte, put-append}
-
--- 3 bytes an event, and 11 before them
-pub length-events : (numbers : List ℕ) → length (eventsBytes numbers) ≡ 3 * length numbers
-length-events [] = refl
-length-events (number ∷ numbers) = omega (arith, length-events numbers)
-
-pub length-file : (s : Settings) (numbers : List ℕ) → length (fileBytes s numbers) ≡ fileLength (length numbers)
-length-file s numbers = omega (arith, length-events numbers)
 
 -- the events of two lists
 pub events-append : (a b : List ℕ) → eventsBytes (a ++ b) ≡ eventsBytes a ++ eventsBytes b

@@ -2,12 +2,11 @@
 use mathlib.Core.Path.{_≡_, sym, ap, _∙_}
 use mathlib.Core.List.{List}
 use Prim.Native.Nat.{ℕ}
-use Rattle.machine.specs.File.{Written, writing}
+use Rattle.file.specs.File.{Written, writing, writtenOf}
 use Rattle.machine.specs.declared.Settings.{Settings}
 use Rattle.machine.specs.declared.Reading.{Reading}
 use Rattle.machine.specs.declared.Writing.{Writing}
 use Rattle.schedule.specs.Asked.{Asked}
-use Rattle.schedule.specs.Written.{writtenOf}
 use Rattle.schedule.specs.declared.Reader.{Reader}
 
 -- `Reader::next`: the answer and the reader as it is left

@@ -19,7 +19,7 @@ use denote.Struct.Rest.{all-own, own-open}
 use denote.Triple.Clauses.{ensured, lasts}
 use denote.Triple.Spec.{tripleOf}
 use denote.Triple.Statement.{Contract}
-use Rattle.machine.specs.File.{reading}
+use Rattle.file.specs.File.{reading}
 use Rattle.schedule.specs.Next.{nextOf}
 use Rattle.schedule.specs.declared.Next.{Next}
 use Rattle.schedule.specs.declared.Reader.{Reader}

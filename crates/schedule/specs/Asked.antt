@@ -3,7 +3,7 @@ use mathlib.Core.Path.{_≡_}
 use mathlib.Core.List.{List}
 use Prim.Native.Nat.{ℕ}
 use denote.Ref.{RefT, now}
-use Rattle.machine.specs.File.{reading}
+use Rattle.file.specs.File.{reading}
 use Rattle.machine.specs.declared.Reading.{Reading}
 use Rattle.schedule.specs.declared.Reader.{Reader}
 

@@ -1,7 +1,3 @@
 -- What the schedule file's functions add to the definitions of `machine`.
 pub mod Next
 pub mod Asked
-pub mod Cases
-pub mod Written
-pub mod Refusing
-pub mod RoundTrip

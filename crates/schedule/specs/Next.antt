@@ -1,6 +1,6 @@
 -- A reader's answer with its position afterwards, as the code returns it.
 use Prim.Native.Nat.{ℕ}
-use Rattle.machine.specs.File.{Read}
+use Rattle.file.specs.File.{Read}
 use Rattle.machine.specs.declared.Refusal.{Refusal}
 use Rattle.machine.specs.declared.Reading.{Reading}
 use Rattle.schedule.specs.declared.Next.{Next}

@@ -1,5 +1,5 @@
 // The schedule file: opening one, the event at a position, and writing one. Each function takes any
-// bytes of any length, and answers what `specs/File.antt` of `machine` says.
+// bytes of any length, and answers what `specs/File.antt` of `file` says.
 
 ghost use mathlib.Core.Path.{_≡_};
 ghost use mathlib.Core.Bool.{false};
@@ -7,11 +7,10 @@ ghost use mathlib.Core.List.{[]};
 ghost use Prim.Native.Nat.{_+_, _≤_};
 ghost use lib.ListN.{length};
 ghost use Rattle.machine.specs.Refusals.{first};
-ghost use Rattle.machine.specs.File.{wordAt, lettersRight, settingsOf, fileLength, anyBelow, codeBad, headerCases, opening, kindOf, reading, wordBytes, headerBytes, codeIn, eventBytes, eventsBytes, numberBad, writing};
+ghost use Rattle.file.specs.File.{wordAt, lettersRight, settingsOf, fileLength, anyBelow, codeBad, headerCases, opening, kindOf, reading, wordBytes, headerBytes, codeIn, eventBytes, eventsBytes, numberBad, writing, writtenOf};
 ghost use Rattle.schedule.specs.Next.{nextOf, stays};
 ghost use Rattle.schedule.specs.Asked.{readerAt, Asked};
 ghost use Rattle.text.specs.Put.{put};
-ghost use Rattle.schedule.specs.Written.{writtenOf};
 use machine::Event;
 use machine::Kind;
 use machine::Opening;

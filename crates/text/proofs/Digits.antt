@@ -10,7 +10,7 @@ use native.Mathlib.Decide.{decLe}
 use lib.Dec.{ltb, lit<}
 use lib.ListN.{length, set, length-append}
 use borrow.Author.Tests.{lt-ltb, le-ltb, ltb-true, ltb-false}
-use Rattle.machine.specs.Listing.{digits, decimal}
+use Rattle.text.specs.Decimal.{digits, decimal}
 use Rattle.text.specs.Put.{Puts}
 use Rattle.text.proofs.Putting.{put-byte, put-byte-after}
 

@@ -2,7 +2,7 @@
 use mathlib.Core.Path.{_≡_, refl, ap, _∙_}
 use Prim.Native.Nat.{max}
 use lib.ListN.{getD}
-use Rattle.machine.specs.Listing.{turnsAfter, completed}
+use Rattle.printed.specs.Listing.{turnsAfter, completed}
 use denote.Ref.{now}
 use Rattle.listing.proofs.Running.{stands-advanced}
 use borrow.Author.Needs.{needs}

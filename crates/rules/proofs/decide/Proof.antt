@@ -7,7 +7,7 @@ use Rattle.machine.specs.declared.Record.{Record}
 use Rattle.machine.proofs.Limits.{limits}
 use Rattle.machine.proofs.Sound.{next-in-range}
 use Rattle.rules.specs.Decision.{rows, Touched, touching}
-use Rattle.rules.proofs.Touching.{access-needed}
+use Rattle.machine.proofs.OneAccess.{access-needed}
 use Rattle.rules.proofs.Deciding.{refused-decided, accepted-decided}
 use Rattle.rules.proofs.Accepting.{accepts, own-in-range}
 use Rattle.machine.proofs.Tests.{tests}
@@ -34,7 +34,7 @@ touch-requires c κs =
     let a = c .before .before .before .before .before .before .before .before .before .before .before .before .args in
     let ok = accepts (a .s) (a .event .kind) (a .event .task .0) (a .seen) (now (a .xs)) (now (a .marks)) (sym (c .before .before .before .before .before .verdict .ensures) ∙ c .before .before .before .enum-told .given .1) in
     let good = own-in-range (a .s) (a .event .kind) (a .event .task .0) (a .seen) (now (a .xs)) (now (a .marks)) (c .before .before .before .before .before .before .before .before .before .before .before .before .pre) ok in
-    (ok .limits, rw (c .before .before .access .ensures) (access-needed (a .s) (a .event .task .0) (ok .limits) (ok .known) (a .event .kind) (a .seen .own .state) good), ok .long .xs-long, ok .long .marks-long)
+    (ok .limits, rw (c .before .before .access .ensures) (access-needed (a .s) (limits (a .s) (ok .limits)) (a .event .task .0) (ok .known) (a .event .kind) (a .seen .own .state) good), ok .long .xs-long, ok .long .marks-long)
 
 next-requires : tie.Need-next-requires
 next-requires c κs =

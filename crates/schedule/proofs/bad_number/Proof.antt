@@ -5,9 +5,9 @@ use Prim.Native.Nat.{ℕ, _-_, _≤_}
 use native.Mathlib.Nat.{le-antisymm}
 use lib.ListN.{length}
 use borrow.Author.Tests.{lt-ltb, le-ltb}
-use Rattle.machine.specs.File.{anyBelow, numberBad}
+use Rattle.file.specs.File.{anyBelow, numberBad}
 use Rattle.machine.proofs.Tests.{tests}
-use Rattle.schedule.proofs.Search.{any-found, none-more}
+use Rattle.file.proofs.Search.{any-found, none-more}
 use Rattle.schedule.proofs.bad_number.Statement.{statement}
 use Rattle.schedule.proofs.bad_number.Tie as tie
 

@@ -4,10 +4,10 @@ use Prim.Native.Nat.{ℕ, _≤_, _<_}
 use native.Mathlib.Omega.{arith}
 use lib.Dec.{leb}
 use borrow.Author.Tests.{le-leb, lt-leb, lt-ltb, le-ltb}
-use Rattle.machine.specs.File.{countOf, codeBad}
+use Rattle.file.specs.File.{countOf, codeBad}
 use Rattle.machine.proofs.Tests.{tests}
 use Rattle.schedule.specs.Next.{nextOf}
-use Rattle.schedule.proofs.Headers.{Header, passed, reading-refused, reading-passed}
+use Rattle.file.proofs.Headers.{Header, passed, reading-refused, reading-passed}
 use Rattle.schedule.proofs.event_at.Statement.{statement}
 use Rattle.schedule.proofs.event_at.Tie as tie
 

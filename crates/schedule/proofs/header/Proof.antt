@@ -6,7 +6,7 @@ use lib.ListN.{length}
 use borrow.Author.Tests.{lt-ltb, le-ltb, eq-eqb, ne-eqb}
 use Rattle.machine.specs.Settings.{permitted}
 use Rattle.machine.specs.Refusals.{outsideLimits}
-use Rattle.machine.specs.File.{lettersRight, versionOf, settingsOf, countOf, mostEvents, fileLength}
+use Rattle.file.specs.File.{lettersRight, versionOf, settingsOf, countOf, mostEvents, fileLength}
 use Rattle.machine.proofs.Tests.{tests}
 use Rattle.schedule.proofs.header.Statement.{statement}
 use Rattle.schedule.proofs.header.Tie as tie

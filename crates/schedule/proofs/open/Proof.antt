@@ -1,8 +1,8 @@
 use mathlib.Core.Path.{_≡_, sym, ap, _∙_}
 use native.Mathlib.Omega.{arith}
-use Rattle.machine.specs.File.{countOf, codeBad, anyBelow}
+use Rattle.file.specs.File.{countOf, codeBad, anyBelow}
 use Rattle.machine.proofs.Tests.{tests}
-use Rattle.schedule.proofs.Headers.{Header, passed, opening-refused, opening-passed}
+use Rattle.file.proofs.Headers.{Header, passed, opening-refused, opening-passed}
 use Rattle.schedule.proofs.open.Statement.{statement}
 use Rattle.schedule.proofs.open.Tie as tie
 

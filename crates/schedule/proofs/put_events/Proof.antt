@@ -6,11 +6,11 @@ use native.Mathlib.Omega.{arith}
 use lib.ListN.{length, take, getD}
 use lib.Seq.{take-all}
 use borrow.Author.Tests.{ltb-false}
-use Rattle.machine.specs.File.{codeIn, numberBad, eventsBytes}
+use Rattle.file.specs.File.{codeIn, numberBad, eventsBytes}
 use Rattle.machine.proofs.Tests.{tests}
 use Rattle.text.specs.Put.{put}
 use Rattle.text.proofs.Putting.{put-nothing}
-use Rattle.schedule.proofs.Search.{none-below}
+use Rattle.file.proofs.Search.{none-below}
 use Rattle.schedule.proofs.Bytes.{length-behind, put-more}
 use Rattle.schedule.proofs.put_events.Statement.{statement}
 use Rattle.schedule.proofs.put_events.Tie as tie

@@ -1,7 +1,7 @@
 use native.Mathlib.Omega.{arith}
 use native.Mathlib.Numerals.{add-one}
 use lib.ListN.{length-set}
-use Rattle.machine.specs.File.{wordBytes}
+use Rattle.file.specs.File.{wordBytes}
 use Rattle.machine.proofs.Tests.{tests}
 use Rattle.schedule.proofs.Bytes.{stores-put}
 use Rattle.schedule.proofs.put_word.Statement.{statement}

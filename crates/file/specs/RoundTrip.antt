@@ -4,8 +4,8 @@ use mathlib.Core.Path.{_≡_}
 use mathlib.Core.List.{List, [], _∷_, _++_}
 use Prim.Native.Nat.{ℕ, zero, suc, _+_, _≤_, _<_}
 use lib.ListN.{length, getD, take, drop}
-use Rattle.machine.specs.Answers.{accepts, readingSaid}
-use Rattle.machine.specs.File.{opening, reading, Written, writing}
+use Rattle.machine.specs.Answers.{Said}
+use Rattle.file.specs.File.{opening, reading, Written, writing, openingSaid, readingSaid, writingSaid}
 use Rattle.machine.specs.declared.Settings.{Settings}
 use Rattle.machine.specs.declared.Opening.{Opening}
 use Rattle.machine.specs.declared.Writing.{Writing}
@@ -19,6 +19,10 @@ eventsRead file at (suc times) = readingSaid (reading file at .answer) .values +
 abbrev pub Bytes : List ℕ → Type 0
 Bytes file = (i : ℕ) → getD file i 0 < 256
 
+-- an answer is an acceptance, and these are the values beside it
+abbrev pub Tells : Said → List ℕ → Type 0
+Tells says values = (says .number ≡ 0) × (says .values ≡ values)
+
 -- an accepted file: its settings and the events that a reader gives, written into any room long enough, are its bytes again
 abbrev pub FileComesBack : Type 0
 FileComesBack =
@@ -31,13 +35,14 @@ FileComesBack =
 -- a file that opens to these settings and as many events, and a reader of it gives these events one by one, then 13
 pub record Holds (s : Settings) (numbers file : List ℕ) : Type 0 where
   pub opens : opening file ≡ Opening.Opened s (length numbers)
-  pub gives : (i : ℕ) → i < length numbers → readingSaid (reading file i .answer) ≡ accepts (getD numbers i 0 ∷ [])
+  pub opening-tells : Tells (openingSaid (opening file)) (s .mode ∷ s .n ∷ s .k ∷ length numbers ∷ [])
+  pub gives : (i : ℕ) → i < length numbers → Tells (readingSaid (reading file i .answer)) (getD numbers i 0 ∷ [])
   pub moves : (i : ℕ) → i < length numbers → reading file i .at ≡ i + 1
   pub events : eventsRead file 0 (length numbers) ≡ numbers
   pub ends : readingSaid (reading file (length numbers) .answer) .number ≡ 13
 
--- an accepted schedule: the bytes that the writer wrote hold its settings and its events
+-- an accepted schedule: the bytes that the writer wrote, as many as it answers, hold its settings and its events
 abbrev pub ScheduleComesBack : Type 0
 ScheduleComesBack =
-    (s : Settings) (numbers room : List ℕ) (count : ℕ) → writing s numbers room .answer ≡ Writing.Wrote count
+    (s : Settings) (numbers room : List ℕ) (count : ℕ) → Tells (writingSaid (writing s numbers room .answer)) (count ∷ [])
     → Holds s numbers (take count (writing s numbers room .room))

@@ -11,22 +11,23 @@ use lib.Seq.{getD-append-add, take-at, ext-getD}
 use borrow.Author.Tests.{ltb-false, le-ltb, not-false}
 use Rattle.machine.specs.Settings.{permitted}
 use Rattle.machine.specs.Refusals.{first}
-use Rattle.machine.specs.Answers.{accepts, eventNumber, readingSaid}
-use Rattle.machine.specs.File.{fileLength, settingsOf, countOf, codeAt, eventAt, codeBad, anyBelow, headerCases, Read, reading, headerBytes, codeIn, eventBytes, eventsBytes, fileBytes, numberBad, writeVerdict, writtenBy, writing}
+use Rattle.machine.specs.Answers.{Said}
+use Rattle.file.specs.File.{eventNumber, readingSaid, writingSaid, fileLength, settingsOf, countOf, codeAt, eventAt, codeBad, anyBelow, headerCases, opening, Read, reading, headerBytes, codeIn, eventBytes, eventsBytes, fileBytes, numberBad, writeVerdict, writtenBy, writing}
 use Rattle.machine.specs.declared.Settings.{Settings}
 use Rattle.machine.specs.declared.Verdict.{Verdict}
 use Rattle.machine.specs.declared.Verdict.the-variants.{Accepted, Refused}
+use Rattle.machine.specs.declared.Opening.{Opening}
 use Rattle.machine.specs.declared.Reading.{Reading}
-use Rattle.machine.specs.declared.Writing.{Writing}
 use Rattle.machine.proofs.Limits.{limits}
-use Rattle.schedule.specs.RoundTrip.{eventsRead, Holds, ScheduleComesBack}
-use Rattle.schedule.proofs.Numbers.{bytes-of-word, bytes-of-event}
-use Rattle.schedule.proofs.Bytes.{length-file}
-use Rattle.schedule.proofs.Search.{none-below, each-none}
-use Rattle.schedule.proofs.Cases.{first-passed}
-use Rattle.schedule.proofs.Headers.{Header, header-accepts, opening-passed, reading-given, reading-ends}
-use Rattle.schedule.proofs.Writes.{Writable}
-use Rattle.schedule.proofs.FileBack.{length-read, getD-read}
+use Rattle.file.specs.RoundTrip.{eventsRead, Tells, Holds, ScheduleComesBack}
+use Rattle.file.proofs.Numbers.{bytes-of-word, bytes-of-event}
+use Rattle.file.proofs.Lengths.{length-file}
+use Rattle.file.proofs.Search.{none-below, each-none}
+use Rattle.file.proofs.Cases.{first-passed}
+use Rattle.file.proofs.Headers.{Header, header-accepts, opening-passed, reading-given, reading-ends}
+use Rattle.file.proofs.Refusing.{wrote, each-writing}
+use Rattle.file.proofs.Writes.{Writable}
+use Rattle.file.proofs.FileBack.{length-read, getD-read}
 
 -- ---- the bytes of the events, one by one
 
@@ -108,10 +109,19 @@ module _ (s : Settings) (numbers : List ℕ) (good : Writable s numbers) where
       ∙ ap (λ (j : ℕ). eventNumber (eventAt file j)) here
       ∙ number-back i below
 
+  opens-back : opening file ≡ Opening.Opened s (length numbers)
+  opens-back = opening-passed file _ refl passes ∙ rw (codes-back, settings-back, count-back)
+
+  tells-back : (i : ℕ) → i < length numbers → Tells (readingSaid (reading file i .answer)) (getD numbers i 0 ∷ [])
+  tells-back i l =
+      let given = ap (λ (read : Read). readingSaid (read .answer)) (given-back i l) in
+      (ap (λ (says : Said). says .number) given, ap (λ (says : Said). says .values) given ∙ ap (λ (number : ℕ). number ∷ []) (number-back i l))
+
   schedule-back : Holds s numbers file
   schedule-back = record {
-    opens = opening-passed file _ refl passes ∙ rw (codes-back, settings-back, count-back);
-    gives = λ i l. ap (λ (read : Read). readingSaid (read .answer)) (given-back i l) ∙ ap (λ (number : ℕ). accepts (number ∷ [])) (number-back i l);
+    opens = opens-back;
+    opening-tells = rw opens-back (refl, refl);
+    gives = tells-back;
     moves = λ i l. ap (λ (read : Read). read .at) (given-back i l);
     events = events-back;
     ends = ap (λ (read : Read). readingSaid (read .answer) .number) (reading-ends file passes (length numbers) (omega (arith, count-back)));
@@ -120,14 +130,10 @@ module _ (s : Settings) (numbers : List ℕ) (good : Writable s numbers) where
 -- ---- the theorem
 
 -- what the writer's acceptance shows
-written-accepted : (s : Settings) (numbers room : List ℕ) (count : ℕ) → writing s numbers room .answer ≡ Writing.Wrote count
+written-accepted : (s : Settings) (numbers room : List ℕ) (count : ℕ) → Tells (writingSaid (writing s numbers room .answer)) (count ∷ [])
     → (writeVerdict s numbers room ≡ Accepted) × (fileLength (length numbers) ≡ count)
-written-accepted s numbers room count e = go (writeVerdict s numbers room) refl e
-  where
-    go : (v : Verdict) → writeVerdict s numbers room ≡ v → writtenBy v s numbers room .answer ≡ Writing.Wrote count
-        → (writeVerdict s numbers room ≡ Accepted) × (fileLength (length numbers) ≡ count)
-    go Accepted is e = (is, cc)
-    go (Refused why) is e = (cc, cc)
+written-accepted s numbers room count (accepted, value) =
+    (wrote s numbers room accepted, ap (λ (values : List ℕ). getD values 0 0) (sym (each-writing s numbers room .values accepted) ∙ value))
 
 verdict-writable : (s : Settings) (numbers room : List ℕ) → writeVerdict s numbers room ≡ Accepted → Writable s numbers
 verdict-writable s numbers room accepted =

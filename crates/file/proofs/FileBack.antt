@@ -11,14 +11,13 @@ use lib.ListN.{length, getD, drop, drop-of-length-le}
 use lib.Seq.{drop-cons}
 use borrow.Author.Tests.{ltb-false, eqb-true}
 use Rattle.machine.specs.Refusals.{first}
-use Rattle.machine.specs.Answers.{eventNumber, readingSaid}
-use Rattle.machine.specs.File.{fileLength, byteAt, lettersRight, settingsOf, countOf, codeAt, eventAt, codeBad, anyBelow, headerCases, Read, headerBytes, codeIn, eventBytes, eventsBytes, fileBytes, numberBad, writing}
+use Rattle.file.specs.File.{eventNumber, readingSaid, fileLength, byteAt, lettersRight, settingsOf, countOf, codeAt, eventAt, codeBad, anyBelow, headerCases, Read, headerBytes, codeIn, eventBytes, eventsBytes, fileBytes, numberBad, writing}
 use Rattle.machine.specs.declared.Verdict.the-variants.{Accepted}
-use Rattle.schedule.specs.RoundTrip.{eventsRead, Bytes, FileComesBack}
-use Rattle.schedule.proofs.Numbers.{low-byte, high-byte, event-of-bytes}
-use Rattle.schedule.proofs.Search.{none-below, each-none}
-use Rattle.schedule.proofs.Writes.{Writable, filled, writable-written}
-use Rattle.schedule.proofs.Headers.{Header, header-accepted, Accepts, file-accepted, reading-given}
+use Rattle.file.specs.RoundTrip.{eventsRead, Bytes, FileComesBack}
+use Rattle.file.proofs.Numbers.{low-byte, high-byte, event-of-bytes}
+use Rattle.file.proofs.Search.{none-below, each-none}
+use Rattle.file.proofs.Writes.{Writable, filled, writable-written}
+use Rattle.file.proofs.Headers.{Header, header-accepted, Accepts, file-accepted, reading-given}
 
 -- ---- a file as its elements
 

@@ -7,7 +7,7 @@ use lib.ListN.{length}
 use borrow.Author.Tests.{ltb-false, eqb-true, not-false, le-ltb, le-leb, lt-leb, eq-eqb}
 use Rattle.machine.specs.Settings.{permitted}
 use Rattle.machine.specs.Refusals.{first}
-use Rattle.machine.specs.File.{mostEvents, fileLength, lettersRight, versionOf, settingsOf, countOf, anyBelow, codeBad, eventAt, headerCases, openVerdict, openingBy, opening, Read, readBy, reading}
+use Rattle.file.specs.File.{mostEvents, fileLength, lettersRight, versionOf, settingsOf, countOf, anyBelow, codeBad, eventAt, headerCases, openVerdict, openingBy, opening, Read, readBy, reading, codeCases, eventCases}
 use Rattle.machine.specs.declared.Settings.{Settings}
 use Rattle.machine.specs.declared.Refusal.{Refusal}
 use Rattle.machine.specs.declared.Refusal.the-variants.{NoEvent}
@@ -15,8 +15,7 @@ use Rattle.machine.specs.declared.Verdict.{Verdict}
 use Rattle.machine.specs.declared.Verdict.the-variants.{Accepted, Refused}
 use Rattle.machine.specs.declared.Opening.{Opening}
 use Rattle.machine.specs.declared.Reading.{Reading}
-use Rattle.schedule.specs.Cases.{codeCases, eventCases}
-use Rattle.schedule.proofs.Cases.{first-passed, first-then, first-stays, first-both}
+use Rattle.file.proofs.Cases.{first-passed, first-then, first-stays, first-both}
 
 -- what each test shows
 pub record Header (file : List ℕ) : Type 0 where

@@ -3,8 +3,7 @@ use mathlib.Core.Path.{_≡_, refl, ap, _∙_}
 use mathlib.Core.List.{[], _∷_}
 use Prim.Native.Nat.{ℕ, zero, suc, _+_, _*_, _/_, _%_, _≤_, _<_}
 use native.Mathlib.Omega.{arith}
-use Rattle.machine.specs.Answers.{codeOf}
-use Rattle.machine.specs.File.{codeIn, eventBytes, kindOf}
+use Rattle.file.specs.File.{codeOf, codeIn, eventBytes, kindOf}
 
 -- the low byte of a number, what stands above it, and the byte above it
 pub low-byte : (low rest : ℕ) → low < 256 → (low + 256 * rest) % 256 ≡ low

@@ -11,35 +11,34 @@ use lib.Dec.{T, eqb, ltb, eqb→eq}
 use lib.ListN.{length, getD, set, length-set, length-replicate, getD-replicate}
 use lib.Seq.{getD-set-same, getD-set-other}
 use borrow.Author.Tests.{eqb-true, eqb-false, lt-ltb, le-ltb}
 use Rattle.machine.specs.Records.{isHolding}
-use Rattle.machine.specs.Memory.{Memory, stateOf, tick, count, holdersOf}
+use Rattle.machine.specs.Memory.{Memory, stateOf, tick, count, largest}
 use Rattle.machine.specs.Answers.{isAccepted}
 use Rattle.machine.specs.Calls.{Outcome, nameAt, answerOf, call, setup}
 use Rattle.machine.specs.Calls as calls
 use Rattle.machine.specs.History.{Answered, counted, turnsOf}
-use Rattle.machine.specs.File.{codeAt, taskAt, eventAt, anyBelow}
-use Rattle.machine.specs.Listing.{largest, Progress, turnsAfter, completed, progress, listingBy}
+use Rattle.file.specs.File.{codeAt, taskAt, eventAt, anyBelow}
+use Rattle.printed.specs.Listing.{Progress, turnsAfter, completed, progress, listingBy, holdersOf}
 use Rattle.machine.specs.Demands.{memoryAfter, historyOf, used, HoldsSome, bound}
-use Rattle.machine.specs.EndLine.{eventsOf, memoryAt, holdersAt, answerAt, Completes, takenAt, turnsSince, turnsAt, linesOf}
-use Rattle.machine.specs.EndLine.{Attained, NoneCounts, Greatest, EndLineCounted, EndCountsOne, UsedCounted, MostWithinBound}
+use Rattle.printed.specs.EndLine.{eventsOf, memoryAt, holdersAt, answerAt, Completes, takenAt, turnsSince, turnsAt, linesOf, Attained, NoneCounts, Greatest, EndLineCounted, EndCountsOne, UsedCounted, MostWithinBound}
 use Rattle.machine.specs.declared.Settings.{Settings}
 use Rattle.machine.specs.declared.Name.{Name}
 use Rattle.machine.specs.declared.State.{State}
 use Rattle.machine.specs.declared.State.the-variants.{Idle, Seeking, Holding}
 use Rattle.machine.specs.declared.Kind.{Kind}
 use Rattle.machine.specs.declared.Kind.the-variants.{Ask, Turn, Release}
 use Rattle.machine.specs.declared.Event.{Event}
 use Rattle.machine.specs.declared.Answer.{Answer}
 use Rattle.machine.specs.declared.Opening.{Opening}
 use Rattle.machine.specs.OneAccess.{AcceptedIn}
 use Rattle.machine.proofs.Limits.{limits}
 use Rattle.machine.proofs.Searching.{count-same, count-none}
 use Rattle.machine.proofs.Passing.{passed, by-the-rules}
 use Rattle.machine.proofs.Effects.{only-the-register-written-changes}
 use Rattle.machine.proofs.Histories.{run-append, history-append}
 use Rattle.machine.proofs.Served.{turns-append}
 use Rattle.machine.proofs.Demand3.{served-within, setup-takes}
-use Rattle.machine.proofs.Greatest.{none-yet, one-skipped, one-counted, greatest-one}
+use Rattle.printed.proofs.Greatest.{none-yet, one-skipped, one-counted, greatest-one}
 
 -- ---- counted since
 
@@ -200,7 +199,7 @@ module _ (s : Settings) (file : List ℕ) where
   completing-task : (n : ℕ) → Completes s file n → taskAt file n .0 < 256
   completing-task n (name, e) =
       let accepted = passed s (eventAt file n) (memoryAt s file n) (rw e tt) in
-      let few = limits s (accepted .lent .limits) .n-most in
+      let few = accepted .lent .limits .n-most in
       let low = accepted .task in
       omega arith
 

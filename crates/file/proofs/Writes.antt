@@ -7,10 +7,10 @@ use native.Mathlib.Omega.{arith}
 use lib.ListN.{length, drop}
 use borrow.Author.Tests.{le-ltb}
 use Rattle.machine.specs.Settings.{permitted}
-use Rattle.machine.specs.File.{mostEvents, fileLength, anyBelow, numberBad, fileBytes, Written, writing}
+use Rattle.file.specs.File.{mostEvents, fileLength, anyBelow, numberBad, fileBytes, Written, writing}
 use Rattle.machine.specs.declared.Settings.{Settings}
 use Rattle.machine.specs.declared.Writing.{Writing}
-use Rattle.schedule.proofs.Bytes.{length-file}
+use Rattle.file.proofs.Lengths.{length-file}
 
 -- it passes the tests 1, 11 and 12
 pub record Writable (s : Settings) (numbers : List ℕ) : Type 0 where

@@ -3,26 +3,25 @@
 -- fix N and k and follow a run of turns are stated on the largest memory: setup clears what is needed, and by `SurplusNeverBears` the rest
 -- changes no answer (docs/DECISIONS.md).
 use mathlib.Core.Path.{_≡_}
-use mathlib.Core.Bool.{false}
+use mathlib.Core.Logic.{_⊎_}
 use mathlib.Core.List.{List, [], _∷_, _++_, map}
-use Prim.Native.Nat.{ℕ, _+_, _<_}
-use lib.Dec.{T, ltb}
-use lib.ListN.{length}
-use Rattle.machine.specs.Settings.{permitted}
-use Rattle.machine.specs.Places.{blocks, nameNumber}
-use Rattle.machine.specs.Memory.{Memory, marksNeeded, badRecord, badX, badMark}
-use Rattle.machine.specs.Refusals.{rowShort}
+use Prim.Native.Nat.{ℕ, _+_, _≤_, _<_}
+use lib.Dec.{T}
+use Rattle.machine.specs.Places.{nameNumber}
+use Rattle.machine.specs.Memory.{Memory, largest}
 use Rattle.machine.specs.Answers.{isAccepted}
 use Rattle.machine.specs.Calls.{call, setup, ask, turn, release}
 use Rattle.machine.specs.History.{Answered}
-use Rattle.machine.specs.Listing.{largest, bytesOf, listing}
+use Rattle.text.specs.Decimal.{bytesOf}
+use Rattle.printed.specs.Listing.{listing}
 use Rattle.machine.specs.Worst.{turns}
+use Rattle.machine.specs.Refusing.{NoneHolds, lentLines, rangeLines}
 use Rattle.machine.specs.Demands.{SetUp, memoryAfter, historyOf, used, bound}
 use Rattle.machine.specs.declared.Settings.{Settings}
 use Rattle.machine.specs.declared.Event.{Event}
-use Rattle.machine.specs.declared.Refusal.the-variants.{NoSuchTask, OneTime, TooManyOut}
+use Rattle.machine.specs.declared.Refusal.the-variants.{Limits, NoSuchTask, OneTime, TooManyOut}
 use Rattle.machine.specs.declared.Answer.{Answer}
 use Rattle.machine.specs.declared.Answer.the-variants.{Seeks, Holds, Freed, Refused}
 
 abbrev pub settings : ℕ → ℕ → ℕ → Settings
 settings mode n k = record { mode = mode; n = n; k = k }
@@ -76,14 +75,6 @@ sampleText =
 -- the first nine of the sixteen: task 0 holds
 abbrev pub sampleStart : List Event
 sampleStart = ask 0 ∷ ask 1 ∷ turn 0 ∷ turn 1 ∷ turns 5 0
-
--- a memory that passes the tests 1 to 3
-pub record Passes (s : Settings) (m : Memory) : Type 0 where
-  pub limits : T (permitted s)
-  pub rows : rowShort s (length (m .records)) (m .xs) (m .marks) ≡ false
-  pub records : ltb (badRecord s (m .records)) (s .n) ≡ false
-  pub xs : ltb (badX s (m .xs)) (blocks s) ≡ false
-  pub marks : ltb (badMark s (m .marks)) (marksNeeded s) ≡ false
 
 -- k = 5: places (0,0), (0,4), (1,0), (2,2), (4,0) have names 0, 4, 5, 11, 14
 abbrev pub FiveNames : Type 0
@@ -143,12 +134,25 @@ LastIdentifier =
 -- Release in mode 0, any identifier below N: 5, also while idle
 abbrev pub NoRelease : Type 0
 NoRelease =
-    (s : Settings) (m : Memory) → s .mode ≡ 0 → Passes s m → (p : ℕ) → p < s .n → call s (release p) m .answer ≡ Refused OneTime
+    (s : Settings) (m : Memory) → s .mode ≡ 0 → NoneHolds (lentLines s m (rangeLines s m [])) → (p : ℕ) → p < s .n
+    → call s (release p) m .answer ≡ Refused OneTime
 
 abbrev pub NoReleaseIdle : Type 0
 NoReleaseIdle =
     (s : Settings) (lent : Memory) → SetUp s lent → s .mode ≡ 0 → (p : ℕ) → p < s .n
     → call s (release p) (setup s lent .memory) .answer ≡ Refused OneTime
+
+-- ---- the edges of the limits
+
+-- the setups that the lines speak of are accepted: both modes, N from 1 to 256, k from 1 to 16 and at most N
+abbrev pub SetupsTaken : Type 0
+SetupsTaken = (mode n k : ℕ) → mode ≤ 1 → 1 ≤ n → n ≤ 256 → 1 ≤ k → k ≤ 16 → k ≤ n → SetUp (settings mode n k) largest
+
+-- k = 17: 1. k = 3, N = 2: 1. N = 257: 1. So is a mode of 2. Whatever else the settings say, whatever is lent, and whichever call it is
+abbrev pub OutsideRefused : Type 0
+OutsideRefused =
+    (s : Settings) → (s .k ≡ 17) ⊎ (((s .k ≡ 3) × (s .n ≡ 2)) ⊎ ((s .n ≡ 257) ⊎ (s .mode ≡ 2))) → (m : Memory) (event : Event)
+    → (setup s m .answer ≡ Refused Limits) × (call s event m .answer ≡ Refused Limits)
 
 -- the table, whole
 pub record Edges : Type 0 where
@@ -162,3 +166,5 @@ pub record Edges : Type 0 where
   pub last-identifier : LastIdentifier
   pub no-release : NoRelease
   pub no-release-idle : NoReleaseIdle
+  pub setups-taken : SetupsTaken
+  pub outside-refused : OutsideRefused

@@ -5,31 +5,31 @@ use Prim.Native.Nat.{ℕ, suc, _+_, _≤_, _<_}
 use native.Mathlib.Omega.{arith}
 use lib.Dec.{T}
 use lib.ListN.{getD, set}
 use Rattle.machine.specs.Settings.{permitted, width, own}
 use Rattle.machine.specs.Places.{half, placeNumber, blockNumber, nameNumber}
 use Rattle.machine.specs.Records.{isOut}
 use Rattle.machine.specs.Memory.{Memory, markIndex, stateOf, outOf}
 use Rattle.machine.specs.Calls.{Outcome, eventOf, answerOf, nextState, accept, setup}
 use Rattle.machine.specs.History.{history}
 use Rattle.machine.specs.Demands.{SetUp}
-use Rattle.machine.specs.Edges.{answersIn, acquires, servedAt, OneTimePair}
+use Rattle.printed.specs.Edges.{answersIn, acquires, servedAt, OneTimePair}
 use Rattle.machine.specs.declared.Settings.{Settings}
 use Rattle.machine.specs.declared.Direction.the-variants.{Right}
 use Rattle.machine.specs.declared.Point.the-variants.{WriteX, Scan, WriteMark, ReadX}
 use Rattle.machine.specs.declared.State.{State}
 use Rattle.machine.specs.declared.State.the-variants.{Idle, Seeking, Holding}
 use Rattle.machine.specs.declared.Kind.{Kind}
 use Rattle.machine.specs.declared.Kind.the-variants.{Ask, Turn}
 use Rattle.machine.specs.declared.Event.{Event}
 use Rattle.machine.specs.declared.Answer.{Answer}
 use Rattle.machine.proofs.Limits.{limits}
 use Rattle.machine.proofs.Fresh.{setup-permitted, fresh-idle, fresh-none-out}
 use Rattle.machine.proofs.Counting.{count-but-one}
 use Rattle.machine.proofs.Turning.{scan-marked, scan-done, reads-own}
 use Rattle.machine.proofs.Arriving.{arrive-edge, arrive-block, leave-at-once}
 use Rattle.machine.proofs.Seen.{x-on-block, mark-on-block, x-put, mark-put}
 use Rattle.machine.proofs.Histories.{fresh-fine, fresh-unmarked}
 use Rattle.machine.proofs.Laps.{Took, turn-took, ask-took}
 
 -- what the calls are answered, from m on
 record Heard (s : Settings) (events : List Event) (m : Memory) (answers : List Answer) : Type 0 where

@@ -1,0 +1,184 @@
+-- Opening, the next event and the writer are refused exactly by the lines of their tables, and answer what is promised.
+use mathlib.Core.Path.{_≡_, refl, sym, ap, _∙_}
+use mathlib.Core.Logic.{_⊎_, inl, inr, _↔_}
+use mathlib.Core.Bool.{Bool, true, false, not, _||_, _&&_}
+use mathlib.Core.List.{List, [], _∷_}
+use Prim.Native.Nat.{ℕ, zero, suc, _+_, _*_, _/_, _≤_, _<_}
+use native.Mathlib.Nat.{not-suc-le-zero}
+use native.Mathlib.Decide.{ℕ-discrete}
+use native.Mathlib.Omega.{arith}
+use lib.Dec.{T, eqb, T-not, not-T}
+use lib.ListN.{length, getD, drop, replicate}
+use lib.Seq.{drop-at}
+use Rattle.machine.specs.Refusals.{Case, first}
+use Rattle.machine.specs.Answers.{Said}
+use Rattle.machine.specs.Ranges.{WithinLimits}
+use Rattle.machine.specs.Refusing.{Line, RefusedExactly}
+use Rattle.machine.specs.Calls.{eventOf}
+use Rattle.machine.specs.declared.Settings.{Settings}
+use Rattle.machine.specs.declared.Refusal.{Refusal}
+use Rattle.machine.specs.declared.Verdict.{Verdict}
+use Rattle.machine.specs.declared.Verdict.the-variants.{Accepted}
+use Rattle.machine.specs.declared.Reading.{Reading}
+use Rattle.machine.proofs.Limits.{limits-line}
+use Rattle.machine.proofs.Lines.{and-line, or-line, below-line, most-line, same-line}
+use Rattle.machine.proofs.Deciding.{Are, refused-exactly, accepted-verdict, refusal-keeps}
+use Rattle.file.specs.File.{lettersRight, versionOf, settingsOf, countOf, codeAt, taskAt, eventAt, anyBelow, codeBad, headerCases, codeCases, openVerdict, openingBy, opening, kindOf, eventCases, eventVerdict, readBy, reading, fileLength, fileBytes, numberBad, writeCases, writeVerdict, writtenBy, writing, openingSaid, readingSaid, writingSaid}
+use Rattle.file.specs.Refusing.{byte, sixteen, headerLines, codeLines, openLines, eventLines, nextLines, writeLines, OpeningTold, EachOpening, Gives, ReadingTold, EachReading, WritingTold, EachWriting, WriterTakes}
+use Rattle.file.proofs.Numbers.{kind-code}
+use Rattle.file.proofs.Lengths.{length-file}
+
+-- ---- tests and lines
+
+-- a test that must not hold
+fails-line : {A : Type 0} (b : Bool) → T b ↔ A → T (not b) ↔ (A → ⊥)
+fails-line b test = (λ t a. T-not b t (test .1 a), λ none. not-T b (λ t. none (test .0 t)))
+
+-- some number below n passes
+any-line : {Holds : ℕ → Type 0} (test : ℕ → Bool) → ((i : ℕ) → T (test i) ↔ Holds i) → (n : ℕ) → T (anyBelow test n) ↔ ((i : ℕ) × (i < n) × Holds i)
+any-line test each zero = (λ t. absurd t, λ some. absurd (not-suc-le-zero (some .1)))
+any-line {Holds = Holds} test each (suc n) =
+    let both = or-line (anyBelow test n) (test n) (any-line test each n) (each n) in
+    (λ t. there (both .0 t), λ some. both .1 (back some))
+  where
+    there : ((i : ℕ) × (i < n) × Holds i) ⊎ Holds n → (i : ℕ) × (i < suc n) × Holds i
+    there (inl (i, l, here)) = (i, omega arith, here)
+    there (inr here) = (n, omega arith, here)
+
+    back : (i : ℕ) × (i < suc n) × Holds i → ((i : ℕ) × (i < n) × Holds i) ⊎ Holds n
+    back (i, l, here) = go (ℕ-discrete i n)
+      where
+        go : Dec (i ≡ n) → ((i : ℕ) × (i < n) × Holds i) ⊎ Holds n
+        go (yes same) = inr (rw same at here)
+        go (no other) = inl (i, omega arith, here)
+
+-- ---- opening's tests but the last
+
+letters-line : (file : List ℕ) → T (lettersRight file) ↔ ((byte file 0 ≡ 0x47) × (byte file 1 ≡ 0x52) × (byte file 2 ≡ 0x53))
+letters-line file =
+    let last = and-line (eqb (byte file 1) 0x52) (eqb (byte file 2) 0x53) (same-line (byte file 1) 0x52) (same-line (byte file 2) 0x53) in
+    let all = and-line (eqb (byte file 0) 0x47) (eqb (byte file 1) 0x52 && eqb (byte file 2) 0x53) (same-line (byte file 0) 0x47) last in
+    (λ t. let (g, (r, s)) = all .0 t in (g, r, s), λ (g, r, s). all .1 (g, (r, s)))
+
+header-are : (file : List ℕ) (cases : List Case) (lines : List Line) → Are cases lines → Are (headerCases file cases) (headerLines file lines)
+header-are file cases lines rest = (
+  record { numbered = refl; tested = below-line (length file) 11 },
+  λ long. (
+    record { numbered = refl; tested = fails-line (lettersRight file) (letters-line file) },
+    λ letters. (
+      record { numbered = refl; tested = fails-line (eqb (versionOf file) 1) (same-line (versionOf file) 1) },
+      λ version. (
+        record { numbered = refl; tested = limits-line (settingsOf file) },
+        λ fair. (
+          record { numbered = refl; tested = below-line 16384 (countOf file) },
+          λ few. (
+            record { numbered = refl; tested = fails-line (eqb (length file) (fileLength (countOf file))) (same-line (length file) (fileLength (countOf file))) },
+            λ whole. rest,
+          ),
+        ),
+      ),
+    ),
+  ),
+)
+
+code-line : (file : List ℕ) (i : ℕ) → T (codeBad file i) ↔ (2 < byte file (11 + 3 * i))
+code-line file i = below-line 2 (codeAt file i)
+
+-- ---- opening
+
+module _ (file : List ℕ) where
+  abbrev openSays : Verdict → Said
+  openSays v = openingSaid (openingBy v (settingsOf file) (countOf file))
+
+  open-are : Are (headerCases file (codeCases file)) (openLines file)
+  open-are =
+      header-are file (codeCases file) (codeLines file)
+      (record { numbered = refl; tested = any-line (codeBad file) (code-line file) (countOf file) }, λ none. tt)
+
+  opened : openSays (openVerdict file) .number ≡ 0 → openVerdict file ≡ Accepted
+  opened = accepted-verdict openSays refl (λ why. refl) (openVerdict file)
+
+  pub each-opening : OpeningTold file
+  each-opening = record {
+    exactly = refused-exactly openSays refl (λ why. refl) (headerCases file (codeCases file)) (openLines file) open-are;
+    answers = λ accepted. ap (λ (v : Verdict). openingBy v (settingsOf file) (countOf file)) (opened accepted);
+    values = λ accepted. ap (λ (v : Verdict). openSays v .values) (opened accepted);
+  }
+
+-- ---- the next event
+
+-- a code that is not above 2 is that of the event given
+kind-given : (code task : ℕ) → code ≤ 2 → Gives code task (Reading.Given (eventOf (kindOf code) task))
+kind-given zero task l = inl (refl, refl)
+kind-given (suc zero) task l = inr (inl (refl, refl))
+kind-given (suc (suc zero)) task l = inr (inr (refl, refl))
+kind-given (suc (suc (suc code))) task l = let none : ⊥ = omega arith in absurd none
+
+module _ (file : List ℕ) (at : ℕ) where
+  abbrev nextSays : Verdict → Said
+  nextSays v = readingSaid (readBy v (eventAt file at) at .answer)
+
+  next-are : Are (headerCases file (eventCases file at)) (nextLines file at)
+  next-are =
+      header-are file (eventCases file at) (eventLines file at) (
+        record { numbered = refl; tested = most-line (countOf file) at },
+        λ some. (record { numbered = refl; tested = code-line file at }, λ known. tt),
+      )
+
+  next-exactly : RefusedExactly (nextSays (eventVerdict file at)) (nextLines file at)
+  next-exactly = refused-exactly nextSays refl (λ why. refl) (headerCases file (eventCases file at)) (nextLines file at) next-are
+
+  given : nextSays (eventVerdict file at) .number ≡ 0 → eventVerdict file at ≡ Accepted
+  given = accepted-verdict nextSays refl (λ why. refl) (eventVerdict file at)
+
+  -- the last line of the table does not hold
+  known : nextSays (eventVerdict file at) .number ≡ 0 → codeAt file at ≤ 2
+  known accepted =
+      let (long, (letters, (version, (fair, (few, (whole, (some, (code, last)))))))) = next-exactly .accepted .0 accepted in
+      omega arith
+
+  pub each-reading : ReadingTold file at
+  each-reading = record {
+    exactly = next-exactly;
+    gives = λ accepted. rw (given accepted) (kind-given (codeAt file at) (taskAt file at .0) (known accepted));
+    values = λ accepted. ap (λ (v : Verdict). nextSays v .values) (given accepted)
+        ∙ ap (λ (code : ℕ). (code * 65536 + taskAt file at .0) ∷ []) (kind-code (codeAt file at) (known accepted));
+    moves = λ accepted. ap (λ (v : Verdict). readBy v (eventAt file at) at .at) (given accepted);
+    stays = refusal-keeps nextSays refl (λ why. refl) (λ v. readBy v (eventAt file at) at .at) at (λ why. refl) (eventVerdict file at);
+  }
+
+-- ---- writing
+
+module _ (s : Settings) (numbers room : List ℕ) where
+  abbrev writeSays : Verdict → Said
+  writeSays v = writingSaid (writtenBy v s numbers room .answer)
+
+  write-are : Are (writeCases s numbers room) (writeLines s numbers room)
+  write-are = (
+    record { numbered = refl; tested = limits-line s },
+    λ fair. (
+      record { numbered = refl; tested = below-line 16384 (length numbers) },
+      λ few. (
+        record { numbered = refl; tested = any-line (numberBad numbers) (λ i. below-line 2 (getD numbers i 0 / 65536)) (length numbers) },
+        λ known. (record { numbered = refl; tested = below-line (length room) (fileLength (length numbers)) }, λ fits. tt),
+      ),
+    ),
+  )
+
+  pub wrote : writeSays (writeVerdict s numbers room) .number ≡ 0 → writeVerdict s numbers room ≡ Accepted
+  wrote = accepted-verdict writeSays refl (λ why. refl) (writeVerdict s numbers room)
+
+  pub each-writing : WritingTold s numbers room
+  each-writing = record {
+    exactly = refused-exactly writeSays refl (λ why. refl) (writeCases s numbers room) (writeLines s numbers room) write-are;
+    values = λ accepted. ap (λ (v : Verdict). writeSays v .values) (wrote accepted);
+    beyond = λ accepted. ap (λ (v : Verdict). drop (fileLength (length numbers)) (writtenBy v s numbers room .room)) (wrote accepted)
+        ∙ drop-at (fileBytes s numbers) (drop (fileLength (length numbers)) room) (fileLength (length numbers)) (length-file s numbers);
+    keeps = refusal-keeps writeSays refl (λ why. refl) (λ v. writtenBy v s numbers room .room) room (λ why. refl) (writeVerdict s numbers room);
+  }
+
+-- no line holds of the schedule of no events and a room of eleven bytes
+pub writer-takes : WriterTakes
+writer-takes s l =
+    each-writing s [] (replicate 11 0) .exactly .accepted .1
+    (λ outside. outside l, (λ many. absurd (omega arith), (λ some. absurd (not-suc-le-zero (some .1)), (λ short. absurd (omega arith), tt))))

@@ -1,0 +1,5 @@
+-- 01, "Schedule file": the definitions.
+pub mod File
+-- What is promised of them.
+pub mod Refusing
+pub mod RoundTrip

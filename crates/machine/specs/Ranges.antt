@@ -1,0 +1,64 @@
+-- 01, "What the supervisor holds" and "Memory that is lent": the limits of the settings, how much of each lent row is needed, and which values are
+-- in range, in plain terms of numbers. None of the tests of the definitions is cited here; `refusal-exact` proves that they say the same.
+use mathlib.Core.Path.{_≡_}
+use mathlib.Core.Logic.{_⊎_}
+use mathlib.Core.Bool.{Bool, true, false}
+use Prim.Native.Nat.{ℕ, _+_, _-_, _*_, _/_, _≤_, _<_}
+use lib.ListN.{getD}
+use Rattle.machine.specs.Memory.{Memory, stateOf}
+use Rattle.machine.specs.declared.Settings.{Settings}
+use Rattle.machine.specs.declared.Point.{Point}
+use Rattle.machine.specs.declared.Point.the-variants.{WriteX, Scan, WriteMark, ReadX, Clear}
+use Rattle.machine.specs.declared.State.{State}
+use Rattle.machine.specs.declared.State.the-variants.{Idle, Seeking, Holding}
+use Rattle.machine.specs.declared.Row.{Row}
+use Rattle.machine.specs.declared.Row.the-variants.{Records, Xs, Marks}
+
+-- "mode 0 (one-time) or 1 (long-lived); N from 1 to 256; k from 1 to 16 and at most N"
+pub record WithinLimits (s : Settings) : Type 0 where
+  pub modes : (s .mode ≡ 0) ⊎ (s .mode ≡ 1)
+  pub n-least : 1 ≤ s .n
+  pub n-most : s .n ≤ 256
+  pub k-least : 1 ≤ s .k
+  pub k-most : s .k ≤ 16
+  pub k-within : s .k ≤ s .n
+
+-- more than so many values of a row are needed: "at least N records"; "X numbers: one for each block, B = k(k-1)/2 blocks"; marks: "B in mode 0,
+-- B times N in mode 1"
+abbrev pub NeedsMore : Settings → Row → ℕ → Type 0
+NeedsMore s Records n = n < s .n
+NeedsMore s Xs n = n < s .k * (s .k - 1) / 2
+NeedsMore s Marks n = ((s .mode ≡ 0) × (n < s .k * (s .k - 1) / 2)) ⊎ ((s .mode ≡ 1) × (n < s .k * (s .k - 1) / 2 * s .n))
+
+-- "write X; scan at h (0 ≤ h < N, only h = 0 in mode 0); write mark; read X; clear, going right or down (mode 1 only)"
+abbrev pub PointWithin : Settings → Point → Type 0
+PointWithin s WriteX = Unit {0}
+PointWithin s (Scan h) = (h < s .n) × (s .mode ≡ 0 → h ≡ 0)
+PointWithin s WriteMark = Unit {0}
+PointWithin s ReadX = Unit {0}
+PointWithin s (Clear direction) = s .mode ≡ 1
+
+-- "idle, or seeking with r, c (r+c ≤ k-2) and a point, or holding with r, c (r+c ≤ k-1)"
+abbrev pub StateWithin : Settings → State → Type 0
+StateWithin s Idle = Unit {0}
+StateWithin s (Seeking r c point) = (r + c + 2 ≤ s .k) × PointWithin s point
+StateWithin s (Holding r c) = r + c + 1 ≤ s .k
+
+-- "Any other value is out of range, as is an X above N or a mark above 1"
+abbrev pub BadAt : Settings → Memory → Row → ℕ → Type 0
+BadAt s m Records p = StateWithin s (stateOf m p) → ⊥
+BadAt s m Xs block = s .n < getD (m .xs) block 0
+BadAt s m Marks index = 1 < getD (m .marks) index 0
+
+-- the value at an index of a row is needed and out of range; some value of the row is
+abbrev pub OutOfRangeAt : Settings → Memory → Row → ℕ → Type 0
+OutOfRangeAt s m row index = NeedsMore s row index × BadAt s m row index
+
+abbrev pub SomeOutOfRange : Settings → Memory → Row → Type 0
+SomeOutOfRange s m row = (index : ℕ) × OutOfRangeAt s m row index
+
+-- "A task is out while it seeks or holds."
+abbrev pub seeksOrHolds : State → Bool
+seeksOrHolds Idle = false
+seeksOrHolds (Seeking r c point) = true
+seeksOrHolds (Holding r c) = true

@@ -1,0 +1,145 @@
+-- The table of 01's starred edges, proved: the runs with fixed N and k by computing them, the open ones from what an accepted setup leaves.
+use mathlib.Core.Path.{_≡_, refl, _∙_}
+use mathlib.Core.Logic.{_⊎_, inl, inr}
+use mathlib.Core.Bool.{Bool, true, false, cond, _&&_}
+use mathlib.Core.List.{[]}
+use Prim.Native.Nat.{ℕ, _<_}
+use native.Mathlib.Omega.{arith}
+use lib.Dec.{T, eqb}
+use borrow.Author.Tests.{le-leb, lt-leb}
+use Rattle.machine.specs.Settings.{permitted}
+use Rattle.machine.specs.Places.{half, placeNumber}
+use Rattle.machine.specs.Memory.{Memory, count, firstBad}
+use Rattle.machine.specs.Turn.{arrive}
+use Rattle.machine.specs.Answers.{isAccepted}
+use Rattle.machine.specs.Calls.{call, setup, verdictOf, standing, ask, release}
+use Rattle.text.specs.Decimal.{decimal}
+use Rattle.machine.specs.Ranges.{WithinLimits}
+use Rattle.machine.specs.Refusing.{NoneHolds, lentLines, rangeLines}
+use Rattle.machine.specs.Demands.{SetUp}
+use Rattle.printed.specs.Edges.{FiveNames, NoTurns, LoneTask, TheOtherTask, TheListing, TwoOut, LastIdentifier, NoRelease, NoReleaseIdle, settings, SetupsTaken, OutsideRefused, Edges}
+use Rattle.machine.specs.declared.Settings.{Settings}
+use Rattle.machine.specs.declared.State.{State}
+use Rattle.machine.specs.declared.State.the-variants.{Idle, Seeking, Holding}
+use Rattle.machine.specs.declared.Verdict.{Verdict}
+use Rattle.machine.specs.declared.Row.the-variants.{Records, Xs, Marks}
+use Rattle.machine.specs.declared.Refusal.the-variants.{OneTime}
+use Rattle.machine.specs.declared.Answer.the-variants.{Refused}
+use Rattle.machine.proofs.Bools.{is-false}
+use Rattle.machine.proofs.Limits.{limits, permits, mode-most}
+use Rattle.machine.proofs.Lines.{short-line}
+use Rattle.machine.proofs.BadValue.{found-line}
+use Rattle.machine.proofs.Refusing.{within}
+use Rattle.machine.proofs.Exact.{setup-takes-largest}
+use Rattle.machine.proofs.Fresh.{Passes, setup-permitted, fresh-passes, fresh-idle, fresh-none-out, verdict-past-range}
+use Rattle.printed.proofs.OneTimePair.{one-time-pair}
+
+five-names : FiveNames
+unfolding half placeNumber
+five-names s five = rw five (refl, refl, refl, refl, refl)
+
+lone-task : LoneTask
+unfolding half placeNumber count firstBad
+lone-task = (refl, refl)
+
+the-other-task : TheOtherTask
+unfolding half placeNumber count firstBad
+the-other-task = (refl, refl)
+
+the-listing : TheListing
+unfolding half placeNumber count firstBad decimal
+the-listing = (refl, refl, refl)
+
+two-out : TwoOut
+unfolding half placeNumber count firstBad
+two-out = (
+  (refl, refl, refl, refl, refl, refl, refl, refl),
+  (refl, refl, refl, refl, refl, refl, refl, refl),
+  (refl, refl, refl, refl, refl, refl, refl, refl),
+  (refl, refl, refl, refl, refl, refl, refl, refl),
+  (refl, refl, refl, refl, refl, refl, refl, refl),
+  (refl, refl, refl, refl, refl, refl, refl, refl),
+)
+
+-- an ask of a task below N, right after setup, is accepted
+fresh-ask : (s : Settings) (lent : Memory) → SetUp s lent → (p : ℕ) → p < s .n → verdictOf s (ask p) (setup s lent .memory) ≡ Verdict.Accepted
+fresh-ask s lent ok p l =
+    let k-least = limits s (setup-permitted s lent ok) .k-least in
+    verdict-past-range s (setup s lent .memory) (ask p) (fresh-passes s lent ok)
+    ∙ rw (lt-leb (s .n) p l, fresh-idle s lent ok p l, fresh-none-out s lent ok, lt-leb (s .k) 0 k-least)
+
+cond-same : (b : Bool) (n : ℕ) → cond b n n ≡ n
+cond-same true n = refl
+cond-same false n = refl
+
+no-turns : NoTurns
+unfolding half placeNumber
+no-turns s lent ok one p l = (
+  rw (fresh-ask s lent ok p l, one),
+  cond-same (isAccepted (call s (ask p) (setup s lent .memory) .answer) && eqb p p) 0,
+)
+
+last-identifier : LastIdentifier
+last-identifier s lent ok all = (
+  rw (verdict-past-range s (setup s lent .memory) (ask 256) (fresh-passes s lent ok), le-leb (s .n) 256 (omega arith)),
+  rw (fresh-ask s lent ok 255 (omega arith)) (standing-accepted s (arrive s 0 0)),
+)
+  where
+    standing-accepted : (t : Settings) (state : State) → T (isAccepted (standing t state))
+    standing-accepted t Idle = tt
+    standing-accepted t (Seeking r c point) = tt
+    standing-accepted t (Holding r c) = tt
+
+-- where none of 1 to 3 is met, their tests are passed
+met-none : (s : Settings) (m : Memory) → NoneHolds (lentLines s m (rangeLines s m [])) → Passes s m
+met-none s m (fair, (long, (records, (xs, (marks, last))))) =
+    let l = within s fair in
+    record {
+      limits = permits s l;
+      rows = is-false _ (λ t. long (short-line s l m .0 t));
+      records = is-false _ (λ t. records (found-line s l m Records .0 t));
+      xs = is-false _ (λ t. xs (found-line s l m Xs .0 t));
+      marks = is-false _ (λ t. marks (found-line s l m Marks .0 t));
+    }
+
+one-time-release : (s : Settings) (m : Memory) → s .mode ≡ 0 → Passes s m → (p : ℕ) → p < s .n → call s (release p) m .answer ≡ Refused OneTime
+one-time-release s m one-time passes p l = rw (verdict-past-range s m (release p) passes, lt-leb (s .n) p l, one-time)
+
+no-release : NoRelease
+no-release s m one-time none = one-time-release s m one-time (met-none s m none)
+
+no-release-idle : NoReleaseIdle
+no-release-idle s lent ok one-time = one-time-release s (setup s lent .memory) one-time (fresh-passes s lent ok)
+
+-- ---- the edges of the limits
+
+setups-taken : SetupsTaken
+setups-taken mode n k mode-most n-least n-most k-least k-most k-within =
+    setup-takes-largest (settings mode n k)
+    (limits (settings mode n k)
+    (rw (le-leb mode 1 mode-most, le-leb 1 n n-least, le-leb n 256 n-most, le-leb 1 k k-least, le-leb k 16 k-most, le-leb k n k-within) tt))
+
+outside-refused : OutsideRefused
+outside-refused s outside m event = rw (is-false (permitted s) (λ t. not-within (limits s t) outside)) (refl, refl)
+  where
+    not-within : WithinLimits s → (s .k ≡ 17) ⊎ (((s .k ≡ 3) × (s .n ≡ 2)) ⊎ ((s .n ≡ 257) ⊎ (s .mode ≡ 2))) → ⊥
+    not-within l (inl e) = omega (arith, l .k-most)
+    not-within l (inr (inl (e, f))) = omega (arith, l .k-within)
+    not-within l (inr (inr (inl e))) = omega (arith, l .n-most)
+    not-within l (inr (inr (inr e))) = omega (arith, mode-most s l)
+
+pub edges : Edges
+edges = record {
+  five-names = five-names;
+  no-turns = no-turns;
+  lone-task = lone-task;
+  the-other-task = the-other-task;
+  one-time-pair = one-time-pair;
+  the-listing = the-listing;
+  two-out = two-out;
+  last-identifier = last-identifier;
+  no-release = no-release;
+  no-release-idle = no-release-idle;
+  setups-taken = setups-taken;
+  outside-refused = outside-refused;
+}

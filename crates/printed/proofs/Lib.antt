@@ -1,0 +1,8 @@
+-- a room that is short
+pub mod Refusing
+-- the last line of a listing
+pub mod Greatest
+pub mod EndLine
+-- the table of 01's edges
+pub mod OneTimePair
+pub mod Edges

@@ -1,0 +1,32 @@
+-- What listing a file into lent room leaves.
+use mathlib.Core.List.{List, [], _∷_, _++_}
+use Prim.Native.Nat.{ℕ, _+_, _*_}
+use lib.Dec.{ltb}
+use lib.ListN.{length, drop}
+use Rattle.machine.specs.Refusals.{when, first}
+use Rattle.file.specs.File.{opening, Written, writtenOf}
+use Rattle.printed.specs.Listing.{listing}
+use Rattle.machine.specs.declared.Opening.{Opening}
+use Rattle.machine.specs.declared.Refusal.the-variants.{ShortRoom}
+use Rattle.machine.specs.declared.Verdict.{Verdict}
+use Rattle.machine.specs.declared.Writing.{Writing}
+
+-- room that is enough for every listing: 23 bytes for the first line, 31 for an event's, 22 for the last; 14 where the file is refused
+abbrev pub roomBy : Opening → ℕ
+roomBy (Opening.Opened settings count) = 45 + 31 * count
+roomBy (Opening.Refused why) = 14
+
+abbrev pub roomFor : List ℕ → ℕ
+roomFor file = roomBy (opening file)
+
+-- a room that is shorter is refused by 14
+abbrev pub listVerdict : List ℕ → List ℕ → Verdict
+listVerdict file room = first (when (ltb (length room) (roomFor file)) ShortRoom ∷ [])
+
+-- just the text, from the start of the room, and how long it is; a refusal leaves the room as it was
+abbrev pub listedBy : Verdict → List ℕ → List ℕ → Written
+listedBy Verdict.Accepted text room = writtenOf (Writing.Wrote (length text)) (text ++ drop (length text) room)
+listedBy (Verdict.Refused why) text room = writtenOf (Writing.Refused why) room
+
+abbrev pub listed : List ℕ → List ℕ → Written
+listed file room = listedBy (listVerdict file room) (listing file) room

@@ -1,0 +1,1 @@
+// No function: the listing's definition and promises are in `specs/`, their theorems in `proofs/`.
