@@ -5,18 +5,18 @@ use libc::STDIN_FILENO;
 use libc::STDOUT_FILENO;
 use machine::Writing;
 ghost use mathlib.Core.Path.{_≡_};
-ghost use Prim.Native.Nat.{_≤_};
+ghost use mathlib.Core.List.{List};
+ghost use Prim.Native.Nat.{ℕ, _≤_};
 ghost use lib.ListN.{length, take};
 ghost use Rattle.machine.specs.Listing.{listing};
 
-// How the reading of standard input went: to its end or to the end of the room for it, with the
-// number of bytes; or a read failed.
+// How the reading of standard input ended: with so many bytes read, or with a read that failed.
 enum Input {
     Read(usize),
     Failed,
 }
 
-// Reads standard input into the room for it, from its start.
+// Reads standard input to its end, or as far as the buffer holds.
 fn read_input(input: &mut [u8]) -> Input {
     let mut n = 0;
     while n < input.len() {
@@ -50,10 +50,14 @@ fn longest() -> [u8; 507949]
     [0u8; 507949]
 }
 
-// The listing of the first n bytes of the input, as the part of the room that its text fills.
+// The listing of the first n bytes of the buffer, as the part of the room that its text fills. Where
+// these are as much of an input as the buffer holds, it is the listing of all of that input: the
+// buffer is longer than the longest file, of 49,163 bytes.
 fn listing_of<'a>(input: &[u8], n: usize, room: &'a mut [u8]) -> &'a mut [u8]
+    requires { ⌜ 49164 ≤ length (now input) ⌝ }
     requires { ⌜ 507949 ≤ length (now room) ⌝ }
-    ensures { λ text. ⌜ now text ≡ listing (take n (now (input .entry))) ⌝ }
+    ensures text { λ text. ⌜ now text ≡ listing (take n (now (input .entry))) ⌝ }
+    ensures all { λ text. ⌜ ((all : List ℕ) → take n (now (input .entry)) ≡ take (length (now (input .entry))) all → now text ≡ listing all) ⌝ }
 {
     let listed = listing::list(first(input, n), room);
     let Writing::Wrote(length) = listed else {
@@ -62,8 +66,6 @@ fn listing_of<'a>(input: &[u8], n: usize, room: &'a mut [u8]) -> &'a mut [u8]
     &mut room[..length]
 }
 
-// The input is read as far as 65,536 bytes, more than the longest file's 49,163: longer input has a
-// wrong length either way.
 fn main() {
     let mut input = io::large_buffer();
     let Input::Read(n) = read_input(&mut input) else {
@@ -73,6 +75,9 @@ fn main() {
     let mut room = longest();
     let text = listing_of(&input, n, &mut room);
     if !io::write_all(STDOUT_FILENO, text) {
-        io::write_all(STDERR_FILENO, b"gridlist: standard output cannot be written\n");
+        io::write_all(
+            STDERR_FILENO,
+            b"gridlist: standard output cannot be written\n",
+        );
     }
 }

@@ -4,6 +4,7 @@ use lib.Seq.{length-take-le}
 use denote.Ref.{now}
 use Rattle.machine.specs.Listing.{listing}
 use Rattle.listing.proofs.Contract.{text-within}
+use Rattle.gridlist.proofs.Longer.{part-listed}
 use Rattle.gridlist.proofs.Whole.{never-refused, text-whole}
 use borrow.Author.Needs.{needs}
 use Rattle.gridlist.proofs.listing_of.Statement.{statement}
@@ -30,7 +31,7 @@ returns c =
     let file = now (c .before .before .before .before .before .before .before .first .result) in
     let lists = c .before .before .before .before .before .list in
     let is = rw (c .before .enum-told .given .1) at (lists .ensures) in
-    absurd (never-refused file (now (start .args .room)) (lists .last .1 .0) (start .pre) _ is)
+    absurd (never-refused file (now (start .args .room)) (lists .last .1 .0) (start .pre .1) _ is)
 
 slice-aggregate-result-2 : tie.Need-slice-aggregate-result-2
 slice-aggregate-result-2 c =
@@ -38,7 +39,8 @@ slice-aggregate-result-2 c =
     let file = now (c .before .before .before .before .before .before .before .before .first .result) in
     let lists = c .before .before .before .before .before .before .list in
     let is = rw (c .before .before .listed .given .1) at (lists .ensures) in
-    sym (length-take-le _ (lists .last .1 .0) (text-within file (now (start .args .room)) (lists .last .1 .0) _ is))
+    let within = text-within file (now (start .args .room)) (lists .last .1 .0) _ is in
+    sym (length-take-le _ (lists .last .1 .0) (search (needs, within)))
 
 returns-2 : tie.Need-returns-2
 returns-2 c =
@@ -46,7 +48,8 @@ returns-2 c =
     let first = c .before .before .before .before .before .before .before .before .first in
     let lists = c .before .before .before .before .before .before .list in
     let is = rw (c .before .before .listed .given .1) at (lists .ensures) in
-    text-whole (now (first .result)) (now (start .args .room)) (lists .last .1 .0) (start .pre) _ is ∙ ap listing (first .ensures)
+    let text = text-whole (now (first .result)) (now (start .args .room)) (lists .last .1 .0) (start .pre .1) _ is ∙ ap listing (first .ensures) in
+    (text, λ all read. text ∙ ap listing read ∙ part-listed all _ (start .pre .0))
 
 pub listing-of-spec : {M : Type 1} → statement M
 listing-of-spec =
