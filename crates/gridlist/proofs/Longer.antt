@@ -1,5 +1,4 @@
--- Input longer than the longest file, which has 49,163 bytes, is refused by its header and its length, so a part of it that is longer than
--- that too has the same listing.
+-- Input longer than any file is refused by its header and its length alone. So a part of it that is longer than any file has the same listing.
 use mathlib.Core.Path.{_≡_, refl, sym, ap, _∙_}
 use mathlib.Core.Bool.{Bool, true, false, not, cond}
 use mathlib.Core.List.{List, [], _∷_}
@@ -8,6 +7,7 @@ use native.Mathlib.Omega.{arith}
 use lib.Dec.{eqb, ltb}
 use lib.ListN.{length, take}
 use lib.Seq.{getD-take, length-take-le, take-all}
+use borrow.Author.Needs.{needs}
 use borrow.Author.Tests.{le-ltb, ltb-true, ltb-false, ne-eqb}
 use Rattle.machine.specs.Refusals.{Case, when, first, outsideLimits}
 use Rattle.machine.specs.Answers.{numberOf}
@@ -36,42 +36,31 @@ first-of-tests false false false true wrong rest w = refl
 first-of-tests false false false false wrong rest w = rw (w refl) refl
 
 -- a count that is permitted gives another length
-length-wrong : (file : List ℕ) → 49164 ≤ length file → ltb mostEvents (countOf file) ≡ false → not (eqb (length file) (fileLength (countOf file))) ≡ true
+length-wrong : (file : List ℕ) → fileLength mostEvents < length file → ltb mostEvents (countOf file) ≡ false
+    → not (eqb (length file) (fileLength (countOf file))) ≡ true
 length-wrong file long few =
     let most = ltb-false mostEvents (countOf file) few in
     ap not (ne-eqb (length file) (fileLength (countOf file)) (λ e. omega arith))
 
-longer-refused : (file : List ℕ) → 49164 ≤ length file → listing file ≡ refusedLine (numberOf (why file))
+longer-refused : (file : List ℕ) → fileLength mostEvents < length file → listing file ≡ refusedLine (numberOf (why file))
 longer-refused file long =
     let header : 11 ≤ length file = omega arith in
     let letters = not (lettersRight file) in
     let version = not (eqb (versionOf file) 1) in
     let limits = outsideLimits (settingsOf file) in
     let codes = when (anyBelow (codeBad file) (countOf file)) EventCode ∷ [] in
-    let refused : openVerdict file ≡ Refused (why file) =
-    rw (le-ltb _ _ header) (first-of-tests letters version limits _ _ codes (length-wrong file long)) in
+    let tests = first-of-tests letters version limits _ _ codes (length-wrong file long) in
+    let refused : openVerdict file ≡ Refused (why file) = rw (le-ltb _ _ header) tests in
     ap (λ (v : Verdict). listingBy (openingBy v (settingsOf file) (countOf file)) file) refused
 
 -- the header of a part that is long enough is the header of the whole
-why-same : (whole : List ℕ) (most : ℕ) → 49164 ≤ most → why (take most whole) ≡ why whole
+why-same : (whole : List ℕ) (most : ℕ) → fileLength mostEvents < most → why (take most whole) ≡ why whole
 why-same whole most long =
     let same : (i : ℕ) → i < 11 → byteAt (take most whole) i ≡ byteAt whole i = λ i l. getD-take most whole i 0 (omega arith) in
-    rw (
-      same 0 (omega arith),
-      same 1 (omega arith),
-      same 2 (omega arith),
-      same 3 (omega arith),
-      same 4 (omega arith),
-      same 5 (omega arith),
-      same 6 (omega arith),
-      same 7 (omega arith),
-      same 8 (omega arith),
-      same 9 (omega arith),
-      same 10 (omega arith),
-    )
+    search (needs, same)
 
 -- as much of the input as such a buffer holds has the listing of the whole
-pub part-listed : (whole : List ℕ) (most : ℕ) → 49164 ≤ most → listing (take most whole) ≡ listing whole
+pub part-listed : (whole : List ℕ) (most : ℕ) → fileLength mostEvents < most → listing (take most whole) ≡ listing whole
 part-listed whole most long = go (ltb (length whole) most) refl
   where
     go : (shorter : Bool) → ltb (length whole) most ≡ shorter → listing (take most whole) ≡ listing whole
@@ -79,6 +68,7 @@ part-listed whole most long = go (ltb (length whole) most) refl
     go false is =
         let l = ltb-false (length whole) most is in
         let same : length (take most whole) ≡ most = length-take-le most whole l in
-        let part : 49164 ≤ length (take most whole) = omega arith in
-        let all : 49164 ≤ length whole = omega arith in
-        longer-refused (take most whole) part ∙ ap (λ (r : Refusal). refusedLine (numberOf r)) (why-same whole most long) ∙ sym (longer-refused whole all)
+        let part : fileLength mostEvents < length (take most whole) = omega arith in
+        let all : fileLength mostEvents < length whole = omega arith in
+        let line : refusedLine (numberOf (why (take most whole))) ≡ refusedLine (numberOf (why whole)) = rw (why-same whole most long) in
+        longer-refused (take most whole) part ∙ line ∙ sym (longer-refused whole all)

@@ -6,8 +6,9 @@ use libc::STDOUT_FILENO;
 use machine::Writing;
 ghost use mathlib.Core.Path.{_≡_};
 ghost use mathlib.Core.List.{List};
-ghost use Prim.Native.Nat.{ℕ, _≤_};
+ghost use Prim.Native.Nat.{ℕ, _≤_, _<_};
 ghost use lib.ListN.{length, take};
+ghost use Rattle.machine.specs.File.{mostEvents, fileLength};
 ghost use Rattle.machine.specs.Listing.{listing};
 
 // How the reading of standard input ended: with so many bytes read, or with a read that failed.
@@ -51,10 +52,10 @@ fn longest() -> [u8; 507949]
 }
 
 // The listing of the first n bytes of the buffer, as the part of the room that its text fills. Where
-// these are as much of an input as the buffer holds, it is the listing of all of that input: the
-// buffer is longer than the longest file, of 49,163 bytes.
+// these are as much of an input as the buffer holds, it is the listing of all of that input, since
+// the buffer is longer than any file.
 fn listing_of<'a>(input: &[u8], n: usize, room: &'a mut [u8]) -> &'a mut [u8]
-    requires { ⌜ 49164 ≤ length (now input) ⌝ }
+    requires { ⌜ fileLength mostEvents < length (now input) ⌝ }
     requires { ⌜ 507949 ≤ length (now room) ⌝ }
     ensures text { λ text. ⌜ now text ≡ listing (take n (now (input .entry))) ⌝ }
     ensures all { λ text. ⌜ ((all : List ℕ) → take n (now (input .entry)) ≡ take (length (now (input .entry))) all → now text ≡ listing all) ⌝ }

@@ -48,7 +48,8 @@ returns-2 c =
     let first = c .before .before .before .before .before .before .before .before .first in
     let lists = c .before .before .before .before .before .before .list in
     let is = rw (c .before .before .listed .given .1) at (lists .ensures) in
-    let text = text-whole (now (first .result)) (now (start .args .room)) (lists .last .1 .0) (start .pre .1) _ is ∙ ap listing (first .ensures) in
+    let whole = text-whole (now (first .result)) (now (start .args .room)) (lists .last .1 .0) (start .pre .1) _ is in
+    let text = whole ∙ ap listing (first .ensures) in
     (text, λ all read. text ∙ ap listing read ∙ part-listed all _ (start .pre .0))
 
 pub listing-of-spec : {M : Type 1} → statement M
