@@ -58,6 +58,7 @@ def cases():
     yield 'the longest file and one byte', run_on(longest + b'\0'), refused
     for length in 65535, 65536, 65537, 200000:
         yield f'the longest file with zeros to {length} bytes', run_on(longest.ljust(length, b'\0')), refused
+    yield '1 MB of zeros', run_on(bytes(1000000)), (b'refused 9\n', b'')
     with open('/dev/full', 'wb') as full:
         yield 'output on a full disk', run_on(one, stdout=full), (b'', NOT_WRITTEN)
         yield 'a long output on a full disk', run_on(longest, stdout=full), (b'', NOT_WRITTEN)
