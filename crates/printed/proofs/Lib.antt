@@ -1,5 +1,7 @@
 -- a room that is short
 pub mod Refusing
+-- input longer than any file
+pub mod Longer
 -- the last line of a listing
 pub mod Greatest
 pub mod EndLine
