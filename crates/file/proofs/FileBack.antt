@@ -14,7 +14,7 @@ use Rattle.machine.specs.Refusals.{first}
 use Rattle.file.specs.File.{eventNumber, readingSaid, fileLength, byteAt, lettersRight, settingsOf, countOf, codeAt, eventAt, codeBad, anyBelow, headerCases, Read, headerBytes, codeIn, eventBytes, eventsBytes, fileBytes, numberBad, writing}
 use Rattle.machine.specs.declared.Verdict.the-variants.{Accepted}
 use Rattle.file.specs.RoundTrip.{eventsRead, Bytes, FileComesBack}
-use Rattle.file.proofs.Numbers.{low-byte, high-byte, event-of-bytes}
+use Rattle.file.proofs.Numbers.{low-of-word, high-of-word, event-of-bytes}
 use Rattle.file.proofs.Search.{none-below, each-none}
 use Rattle.file.proofs.Writes.{Writable, filled, writable-written}
 use Rattle.file.proofs.Headers.{Header, header-accepted, Accepts, file-accepted, reading-given}
@@ -57,10 +57,10 @@ module _ (file : List ℕ) (bytes : Bytes file) (good : Header file) where
         letters .2,
         one,
         nought,
-        low-byte (byteAt file 6) (byteAt file 7) (bytes 6),
-        high-byte (byteAt file 6) (byteAt file 7) (bytes 6) (bytes 7),
-        low-byte (byteAt file 9) (byteAt file 10) (bytes 9),
-        high-byte (byteAt file 9) (byteAt file 10) (bytes 9) (bytes 10),
+        low-of-word file 6 (bytes 6),
+        high-of-word file 6 (bytes 6) (bytes 7),
+        low-of-word file 9 (bytes 9),
+        high-of-word file 9 (bytes 9) (bytes 10),
       )
 
   header-back : headerBytes (settingsOf file) (countOf file) ++ drop 11 file ≡ file

@@ -1,19 +1,26 @@
 -- 16 bits and event numbers, taken apart into bytes and put together again.
 use mathlib.Core.Path.{_≡_, refl, ap, _∙_}
-use mathlib.Core.List.{[], _∷_}
+use mathlib.Core.List.{List, [], _∷_}
 use Prim.Native.Nat.{ℕ, zero, suc, _+_, _*_, _/_, _%_, _≤_, _<_}
 use native.Mathlib.Omega.{arith}
-use Rattle.file.specs.File.{codeOf, codeIn, eventBytes, kindOf}
+use Rattle.file.specs.File.{byteAt, wordAt, kindOf, codeIn, eventBytes, codeOf}
 
 -- the low byte of a number, what stands above it, and the byte above it
-pub low-byte : (low rest : ℕ) → low < 256 → (low + 256 * rest) % 256 ≡ low
+low-byte : (low rest : ℕ) → low < 256 → (low + 256 * rest) % 256 ≡ low
 low-byte low rest l = omega arith
 
 above-byte : (low rest : ℕ) → low < 256 → (low + 256 * rest) / 256 ≡ rest
 above-byte low rest l = omega arith
 
-pub high-byte : (low high : ℕ) → low < 256 → high < 256 → (low + 256 * high) / 256 % 256 ≡ high
+high-byte : (low high : ℕ) → low < 256 → high < 256 → (low + 256 * high) / 256 % 256 ≡ high
 high-byte low high l h = ap (λ (n : ℕ). n % 256) (above-byte low high l) ∙ omega arith
+
+-- the two bytes of 16 bits of a file are the file's
+pub low-of-word : (file : List ℕ) (i : ℕ) → byteAt file i < 256 → wordAt file i % 256 ≡ byteAt file i
+low-of-word file i l = omega arith
+
+pub high-of-word : (file : List ℕ) (i : ℕ) → byteAt file i < 256 → byteAt file (i + 1) < 256 → wordAt file i / 256 % 256 ≡ byteAt file (i + 1)
+high-of-word file i l h = high-byte (byteAt file i) (byteAt file (i + 1)) l h
 
 pub bytes-of-word : (n : ℕ) → n < 65536 → n % 256 + 256 * (n / 256 % 256) ≡ n
 bytes-of-word n l = omega arith

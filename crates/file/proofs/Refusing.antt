@@ -1,13 +1,12 @@
 -- Opening, the next event and the writer are refused exactly by the lines of their tables, and answer what is promised.
 use mathlib.Core.Path.{_≡_, refl, sym, ap, _∙_}
 use mathlib.Core.Logic.{_⊎_, inl, inr, _↔_}
-use mathlib.Core.Bool.{Bool, true, false, not, _||_, _&&_}
+use mathlib.Core.Bool.{Bool}
 use mathlib.Core.List.{List, [], _∷_}
 use Prim.Native.Nat.{ℕ, zero, suc, _+_, _*_, _/_, _≤_, _<_}
 use native.Mathlib.Nat.{not-suc-le-zero}
 use native.Mathlib.Decide.{ℕ-discrete}
 use native.Mathlib.Omega.{arith}
-use lib.Dec.{T, eqb, T-not, not-T}
 use lib.ListN.{length, getD, drop, replicate}
 use lib.Seq.{drop-at}
 use Rattle.machine.specs.Refusals.{Case, first}
@@ -20,8 +19,8 @@ use Rattle.machine.specs.declared.Refusal.{Refusal}
 use Rattle.machine.specs.declared.Verdict.{Verdict}
 use Rattle.machine.specs.declared.Verdict.the-variants.{Accepted}
 use Rattle.machine.specs.declared.Reading.{Reading}
-use Rattle.machine.proofs.Limits.{limits-line}
-use Rattle.machine.proofs.Lines.{and-line, or-line, below-line, most-line, same-line}
+use Rattle.machine.proofs.Tested.{Tested, below, most, same, both, either, fails, meaning, never}
+use Rattle.machine.proofs.Limits.{limits-tested}
 use Rattle.machine.proofs.Deciding.{Are, refused-exactly, accepted-verdict, refusal-keeps}
 use Rattle.file.specs.File.{lettersRight, versionOf, settingsOf, countOf, codeAt, taskAt, eventAt, anyBelow, codeBad, headerCases, codeCases, openVerdict, openingBy, opening, kindOf, eventCases, eventVerdict, readBy, reading, fileLength, fileBytes, numberBad, writeCases, writeVerdict, writtenBy, writing, openingSaid, readingSaid, writingSaid}
 use Rattle.file.specs.Refusing.{byte, sixteen, headerLines, codeLines, openLines, eventLines, nextLines, writeLines, OpeningTold, EachOpening, Gives, ReadingTold, EachReading, WritingTold, EachWriting, WriterTakes}
@@ -30,16 +29,11 @@ use Rattle.file.proofs.Lengths.{length-file}
 
 -- ---- tests and lines
 
--- a test that must not hold
-fails-line : {A : Type 0} (b : Bool) → T b ↔ A → T (not b) ↔ (A → ⊥)
-fails-line b test = (λ t a. T-not b t (test .1 a), λ none. not-T b (λ t. none (test .0 t)))
-
 -- some number below n passes
-any-line : {Holds : ℕ → Type 0} (test : ℕ → Bool) → ((i : ℕ) → T (test i) ↔ Holds i) → (n : ℕ) → T (anyBelow test n) ↔ ((i : ℕ) × (i < n) × Holds i)
-any-line test each zero = (λ t. absurd t, λ some. absurd (not-suc-le-zero (some .1)))
-any-line {Holds = Holds} test each (suc n) =
-    let both = or-line (anyBelow test n) (test n) (any-line test each n) (each n) in
-    (λ t. there (both .0 t), λ some. both .1 (back some))
+some-below : {Holds : ℕ → Type 0} (test : ℕ → Bool) → ((i : ℕ) → Tested (test i) (Holds i)) → (n : ℕ)
+    → Tested (anyBelow test n) ((i : ℕ) × (i < n) × Holds i)
+some-below test each zero = never (λ some. not-suc-le-zero (some .1))
+some-below {Holds = Holds} test each (suc n) = meaning (either (some-below test each n) (each n)) (there, back)
   where
     there : ((i : ℕ) × (i < n) × Holds i) ⊎ Holds n → (i : ℕ) × (i < suc n) × Holds i
     there (inl (i, l, here)) = (i, omega arith, here)
@@ -49,30 +43,29 @@ any-line {Holds = Holds} test each (suc n) =
     back (i, l, here) = go (ℕ-discrete i n)
       where
         go : Dec (i ≡ n) → ((i : ℕ) × (i < n) × Holds i) ⊎ Holds n
-        go (yes same) = inr (rw same at here)
+        go (yes e) = inr (rw e at here)
         go (no other) = inl (i, omega arith, here)
 
 -- ---- opening's tests but the last
 
-letters-line : (file : List ℕ) → T (lettersRight file) ↔ ((byte file 0 ≡ 0x47) × (byte file 1 ≡ 0x52) × (byte file 2 ≡ 0x53))
-letters-line file =
-    let last = and-line (eqb (byte file 1) 0x52) (eqb (byte file 2) 0x53) (same-line (byte file 1) 0x52) (same-line (byte file 2) 0x53) in
-    let all = and-line (eqb (byte file 0) 0x47) (eqb (byte file 1) 0x52 && eqb (byte file 2) 0x53) (same-line (byte file 0) 0x47) last in
-    (λ t. let (g, (r, s)) = all .0 t in (g, r, s), λ (g, r, s). all .1 (g, (r, s)))
+letters-tested : (file : List ℕ) → Tested (lettersRight file) ((byte file 0 ≡ 0x47) × (byte file 1 ≡ 0x52) × (byte file 2 ≡ 0x53))
+letters-tested file =
+    meaning (both (same (byte file 0) 0x47) (both (same (byte file 1) 0x52) (same (byte file 2) 0x53)))
+    (λ (g, (r, s)). (g, r, s), λ (g, r, s). (g, (r, s)))
 
 header-are : (file : List ℕ) (cases : List Case) (lines : List Line) → Are cases lines → Are (headerCases file cases) (headerLines file lines)
 header-are file cases lines rest = (
-  record { numbered = refl; tested = below-line (length file) 11 },
+  record { numbered = refl; tested = below (length file) 11 },
   λ long. (
-    record { numbered = refl; tested = fails-line (lettersRight file) (letters-line file) },
+    record { numbered = refl; tested = fails (letters-tested file) },
     λ letters. (
-      record { numbered = refl; tested = fails-line (eqb (versionOf file) 1) (same-line (versionOf file) 1) },
+      record { numbered = refl; tested = fails (same (versionOf file) 1) },
       λ version. (
-        record { numbered = refl; tested = limits-line (settingsOf file) },
+        record { numbered = refl; tested = fails (limits-tested (settingsOf file)) },
         λ fair. (
-          record { numbered = refl; tested = below-line 16384 (countOf file) },
+          record { numbered = refl; tested = below 16384 (countOf file) },
           λ few. (
-            record { numbered = refl; tested = fails-line (eqb (length file) (fileLength (countOf file))) (same-line (length file) (fileLength (countOf file))) },
+            record { numbered = refl; tested = fails (same (length file) (11 + 3 * countOf file)) },
             λ whole. rest,
           ),
         ),
@@ -81,8 +74,8 @@ header-are file cases lines rest = (
   ),
 )
 
-code-line : (file : List ℕ) (i : ℕ) → T (codeBad file i) ↔ (2 < byte file (11 + 3 * i))
-code-line file i = below-line 2 (codeAt file i)
+code-tested : (file : List ℕ) (i : ℕ) → Tested (codeBad file i) (2 < byte file (11 + 3 * i))
+code-tested file i = below 2 (byte file (11 + 3 * i))
 
 -- ---- opening
 
@@ -93,7 +86,7 @@ module _ (file : List ℕ) where
   open-are : Are (headerCases file (codeCases file)) (openLines file)
   open-are =
       header-are file (codeCases file) (codeLines file)
-      (record { numbered = refl; tested = any-line (codeBad file) (code-line file) (countOf file) }, λ none. tt)
+      (record { numbered = refl; tested = some-below (codeBad file) (code-tested file) (countOf file) }, λ none. tt)
 
   opened : openSays (openVerdict file) .number ≡ 0 → openVerdict file ≡ Accepted
   opened = accepted-verdict openSays refl (λ why. refl) (openVerdict file)
@@ -121,8 +114,8 @@ module _ (file : List ℕ) (at : ℕ) where
   next-are : Are (headerCases file (eventCases file at)) (nextLines file at)
   next-are =
       header-are file (eventCases file at) (eventLines file at) (
-        record { numbered = refl; tested = most-line (countOf file) at },
-        λ some. (record { numbered = refl; tested = code-line file at }, λ known. tt),
+        record { numbered = refl; tested = most (countOf file) at },
+        λ some. (record { numbered = refl; tested = code-tested file at }, λ known. tt),
       )
 
   next-exactly : RefusedExactly (nextSays (eventVerdict file at)) (nextLines file at)
@@ -155,12 +148,12 @@ module _ (s : Settings) (numbers room : List ℕ) where
 
   write-are : Are (writeCases s numbers room) (writeLines s numbers room)
   write-are = (
-    record { numbered = refl; tested = limits-line s },
+    record { numbered = refl; tested = fails (limits-tested s) },
     λ fair. (
-      record { numbered = refl; tested = below-line 16384 (length numbers) },
+      record { numbered = refl; tested = below 16384 (length numbers) },
       λ few. (
-        record { numbered = refl; tested = any-line (numberBad numbers) (λ i. below-line 2 (getD numbers i 0 / 65536)) (length numbers) },
-        λ known. (record { numbered = refl; tested = below-line (length room) (fileLength (length numbers)) }, λ fits. tt),
+        record { numbered = refl; tested = some-below (numberBad numbers) (λ i. below 2 (getD numbers i 0 / 65536)) (length numbers) },
+        λ known. (record { numbered = refl; tested = below (length room) (11 + 3 * length numbers) }, λ fits. tt),
       ),
     ),
   )

@@ -3,6 +3,7 @@
 -- tests and numbers
 pub mod Tests
 pub mod Bools
+pub mod Tested
 pub mod Limits
 pub mod Ranges
 pub mod Turning

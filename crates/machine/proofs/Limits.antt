@@ -1,55 +1,47 @@
 -- What permitted settings say, taken out of the one test and put back, and how many marks a block then has.
 use mathlib.Core.Path.{_≡_, refl}
 use mathlib.Core.Logic.{_⊎_, inl, inr, ⊎-elim, _↔_}
-use mathlib.Core.Bool.{Bool, true, false, not, _&&_, cond}
+use mathlib.Core.Bool.{Bool, true, false, cond}
 use Prim.Native.Nat.{ℕ, zero, suc, _≤_}
 use native.Mathlib.Omega.{arith}
-use lib.Dec.{T, eqb, leb, leb→le, T-not, not-T}
-use borrow.Author.Tests.{le-leb}
+use lib.Dec.{T, eqb}
 use Rattle.machine.specs.Settings.{permitted, width}
-use Rattle.machine.specs.Refusals.{outsideLimits}
 use Rattle.machine.specs.Ranges.{WithinLimits}
 use Rattle.machine.specs.declared.Settings.{Settings}
-use Rattle.machine.proofs.Bools.{and-l, and-r}
+use Rattle.machine.proofs.Tested.{Tested, most, both, meaning}
 
-zero-or-one : (mode : ℕ) → mode ≤ 1 → (mode ≡ 0) ⊎ (mode ≡ 1)
-zero-or-one zero l = inl refl
-zero-or-one (suc mode) l = inr (omega arith)
+pub zero-or-one : (mode : ℕ) → (mode ≤ 1) ↔ ((mode ≡ 0) ⊎ (mode ≡ 1))
+zero-or-one mode = (there mode, ⊎-elim (λ e. omega arith) (λ e. omega arith))
+  where
+    there : (mode : ℕ) → mode ≤ 1 → (mode ≡ 0) ⊎ (mode ≡ 1)
+    there zero l = inl refl
+    there (suc mode) l = inr (omega arith)
 
-pub mode-most : (s : Settings) → WithinLimits s → s .mode ≤ 1
-mode-most s l = ⊎-elim (λ e. omega arith) (λ e. omega arith) (l .modes)
+-- the test, and the limits as 01 lists them
+pub limits-tested : (s : Settings) → Tested (permitted s) (WithinLimits s)
+limits-tested s =
+    meaning
+    (both (meaning (most (s .mode) 1) (zero-or-one (s .mode)))
+    (both (most 1 (s .n)) (both (most (s .n) 256) (both (most 1 (s .k)) (both (most (s .k) 16) (most (s .k) (s .n))))))) (
+      λ (modes, (n-least, (n-most, (k-least, (k-most, k-within))))). record {
+        modes = modes;
+        n-least = n-least;
+        n-most = n-most;
+        k-least = k-least;
+        k-most = k-most;
+        k-within = k-within;
+      },
+      λ l. (l .modes, (l .n-least, (l .n-most, (l .k-least, (l .k-most, l .k-within))))),
+    )
 
 pub limits : (s : Settings) → T (permitted s) → WithinLimits s
-limits s t =
-    let last : Bool = leb (s .k) 16 && leb (s .k) (s .n) in
-    let t1 = and-r (leb (s .mode) 1) (leb 1 (s .n) && (leb (s .n) 256 && (leb 1 (s .k) && last))) t in
-    let t2 = and-r (leb 1 (s .n)) (leb (s .n) 256 && (leb 1 (s .k) && last)) t1 in
-    let t3 = and-r (leb (s .n) 256) (leb 1 (s .k) && last) t2 in
-    let t4 = and-r (leb 1 (s .k)) last t3 in
-    record {
-      modes = zero-or-one (s .mode) (leb→le (s .mode) 1 (and-l (leb (s .mode) 1) (leb 1 (s .n) && (leb (s .n) 256 && (leb 1 (s .k) && last))) t));
-      n-least = leb→le 1 (s .n) (and-l (leb 1 (s .n)) (leb (s .n) 256 && (leb 1 (s .k) && last)) t1);
-      n-most = leb→le (s .n) 256 (and-l (leb (s .n) 256) (leb 1 (s .k) && last) t2);
-      k-least = leb→le 1 (s .k) (and-l (leb 1 (s .k)) last t3);
-      k-most = leb→le (s .k) 16 (and-l (leb (s .k) 16) (leb (s .k) (s .n)) t4);
-      k-within = leb→le (s .k) (s .n) (and-r (leb (s .k) 16) (leb (s .k) (s .n)) t4);
-    }
+limits s = limits-tested s .says
 
 pub permits : (s : Settings) → WithinLimits s → T (permitted s)
-permits s l =
-    rw (
-      le-leb (s .mode) 1 (mode-most s l),
-      le-leb 1 (s .n) (l .n-least),
-      le-leb (s .n) 256 (l .n-most),
-      le-leb 1 (s .k) (l .k-least),
-      le-leb (s .k) 16 (l .k-most),
-      le-leb (s .k) (s .n) (l .k-within),
-    )
-    tt
+permits s = limits-tested s .shows
 
--- 1: settings outside the limits
-pub limits-line : (s : Settings) → T (outsideLimits s) ↔ (WithinLimits s → ⊥)
-limits-line s = (λ t l. T-not (permitted s) t (permits s l), λ none. not-T (permitted s) (λ t. none (limits s t)))
+pub mode-most : (s : Settings) → WithinLimits s → s .mode ≤ 1
+mode-most s l = zero-or-one (s .mode) .1 (l .modes)
 
 -- a block has one mark at least, and 256 at most
 pub width-least : (s : Settings) → WithinLimits s → 1 ≤ width s

@@ -1,12 +1,11 @@
 -- Each line of the table of numbers against the test that the definitions make for it.
-use mathlib.Core.Path.{_≡_, refl, sym}
+use mathlib.Core.Path.{_≡_, refl}
 use mathlib.Core.Logic.{_⊎_, inl, inr, ⊎-elim, _↔_}
-use mathlib.Core.Bool.{Bool, true, false, not, _||_, cond, _&&_}
+use mathlib.Core.Bool.{Bool, false, not}
 use Prim.Native.Nat.{ℕ, _+_, _-_, _*_, _/_, _≤_, _<_}
 use native.Mathlib.Omega.{arith}
-use lib.Dec.{T, eqb, leb, ltb, T-not, not-T, leb→le, le→leb, ltb→lt, lt→ltb, eqb→eq}
+use lib.Dec.{leb, ltb}
 use lib.ListN.{length, getD}
-use borrow.Author.Tests.{eq-eqb, ne-eqb}
 use Rattle.machine.specs.Settings.{width}
 use Rattle.machine.specs.Places.{half, blocks}
 use Rattle.machine.specs.Records.{isIdle, isSeeking, isHolding, isOut, pointInRange, stateInRange, recordInRange}
@@ -23,29 +22,8 @@ use Rattle.machine.specs.declared.Kind.the-variants.{Ask, Turn, Release}
 use Rattle.machine.specs.declared.Row.{Row}
 use Rattle.machine.specs.declared.Row.the-variants.{Records, Xs, Marks}
 use Rattle.machine.specs.Refusing.{SomeRowShort, NotTheMoment, tasksOut}
-use Rattle.machine.proofs.Bools.{and-in, and-l, and-r}
+use Rattle.machine.proofs.Tested.{Tested, below, most, same, both, either, fails, meaning, always, never}
 use Rattle.machine.proofs.Searching.{count-same}
-
--- ---- tests in general
-
-pub not-line : (b : Bool) → T (not b) ↔ (T b → ⊥)
-not-line b = (T-not b, not-T b)
-
-pub or-line : {A B : Type 0} (a b : Bool) → T a ↔ A → T b ↔ B → T (a || b) ↔ (A ⊎ B)
-or-line true b f g = (λ t. inl (f .0 tt), λ h. tt)
-or-line false b f g = (λ t. inr (g .0 t), ⊎-elim (λ x. absurd (f .1 x)) (g .1))
-
-pub and-line : {A B : Type 0} (a b : Bool) → T a ↔ A → T b ↔ B → T (a && b) ↔ (A × B)
-and-line a b f g = (λ t. (f .0 (and-l a b t), g .0 (and-r a b t)), λ h. and-in a b (f .1 (h .0)) (g .1 (h .1)))
-
-pub below-line : (a b : ℕ) → T (ltb a b) ↔ (a < b)
-below-line a b = (ltb→lt a b, lt→ltb a b)
-
-pub most-line : (a b : ℕ) → T (leb a b) ↔ (a ≤ b)
-most-line a b = (leb→le a b, le→leb a b)
-
-pub same-line : (a b : ℕ) → T (eqb a b) ↔ (a ≡ b)
-same-line a b = (eqb→eq a b, λ e. rw (eq-eqb a b e) tt)
 
 -- ---- 2: a lent row is shorter than needed
 
@@ -70,37 +48,35 @@ module _ (s : Settings) (l : WithinLimits s) where
   needs-line Xs n = (λ h. h, λ h. h)
   needs-line Marks n = marks-line n
 
-  short-test : (row : Row) (n : ℕ) → T (ltb n (neededOf s row)) ↔ NeedsMore s row n
-  short-test row n = (λ t. needs-line row n .0 (ltb→lt n (neededOf s row) t), λ h. lt→ltb n (neededOf s row) (needs-line row n .1 h))
+  short : (row : Row) (n : ℕ) → Tested (ltb n (neededOf s row)) (NeedsMore s row n)
+  short row n = meaning (below n (neededOf s row)) (needs-line row n)
 
-  pub short-line : (m : Memory) → T (rowShort s (length (m .records)) (m .xs) (m .marks)) ↔ SomeRowShort s m
-  short-line m =
-      let xs = ltb (length (m .xs)) (blocks s) in
-      let marks = ltb (length (m .marks)) (marksNeeded s) in
-      or-line (ltb (length (m .records)) (s .n)) (xs || marks) (short-test Records _) (or-line xs marks (short-test Xs _) (short-test Marks _))
+  pub short-line : (m : Memory) → Tested (rowShort s (length (m .records)) (m .xs) (m .marks)) (SomeRowShort s m)
+  short-line m = either (short Records (length (m .records))) (either (short Xs (length (m .xs))) (short Marks (length (m .marks))))
 
   -- ---- 3: a needed value is out of range
 
-  scan-line : (h : ℕ) → T (ltb h (width s)) ↔ PointWithin s (Scan h)
-  scan-line h = go (l .modes)
+  -- the places of a scan, by the mode
+  scan-places : (h : ℕ) → (h < width s) ↔ PointWithin s (Scan h)
+  scan-places h = go (l .modes)
     where
-      go : (s .mode ≡ 0) ⊎ (s .mode ≡ 1) → T (ltb h (width s)) ↔ PointWithin s (Scan h)
+      go : (s .mode ≡ 0) ⊎ (s .mode ≡ 1) → (h < width s) ↔ PointWithin s (Scan h)
       go (inl once) =
           let some = l .n-least in
-          rw once (λ t. let low = ltb→lt h 1 t in (omega arith, λ e. omega arith), λ within. let none = within .1 refl in lt→ltb h 1 (omega arith))
-      go (inr long) = rw long (λ t. (ltb→lt h (s .n) t, λ e. absurd (omega arith)), λ within. lt→ltb h (s .n) (within .0))
+          rw once (λ low. (omega arith, λ e. omega arith), λ within. let none = within .1 refl in omega arith)
+      go (inr long) = rw long (λ low. (low, λ e. absurd (omega arith)), λ within. within .0)
 
-  pub point-line : (point : Point) → T (pointInRange s point) ↔ PointWithin s point
-  point-line WriteX = (λ t. tt, λ h. tt)
-  point-line (Scan h) = scan-line h
-  point-line WriteMark = (λ t. tt, λ h. tt)
-  point-line ReadX = (λ t. tt, λ h. tt)
-  point-line (Clear direction) = same-line (s .mode) 1
+  pub point-line : (point : Point) → Tested (pointInRange s point) (PointWithin s point)
+  point-line WriteX = always tt
+  point-line (Scan h) = meaning (below h (width s)) (scan-places h)
+  point-line WriteMark = always tt
+  point-line ReadX = always tt
+  point-line (Clear direction) = same (s .mode) 1
 
-  pub state-line : (state : State) → T (stateInRange s state) ↔ StateWithin s state
-  state-line Idle = (λ t. tt, λ h. tt)
-  state-line (Seeking r c point) = and-line (leb (r + c + 2) (s .k)) (pointInRange s point) (most-line (r + c + 2) (s .k)) (point-line point)
-  state-line (Holding r c) = most-line (r + c + 1) (s .k)
+  pub state-line : (state : State) → Tested (stateInRange s state) (StateWithin s state)
+  state-line Idle = always tt
+  state-line (Seeking r c point) = both (most (r + c + 2) (s .k)) (point-line point)
+  state-line (Holding r c) = most (r + c + 1) (s .k)
 
   -- whether the value at an index is in range, in the definitions
   abbrev pub inRangeAt : Memory → Row → ℕ → Bool
@@ -108,39 +84,46 @@ module _ (s : Settings) (l : WithinLimits s) where
   inRangeAt m Xs block = xInRange s (getD (m .xs) block 0)
   inRangeAt m Marks index = markInRange (getD (m .marks) index 0)
 
-  above-line : (a b : ℕ) → T (not (leb a b)) ↔ (b < a)
-  above-line a b = (
-    λ t. let no = T-not (leb a b) t in let high : a ≤ b → ⊥ = λ h. no (le→leb a b h) in omega arith,
-    λ h. not-T (leb a b) (λ t. let low = leb→le a b t in absurd (omega arith)),
-  )
+  above : (a b : ℕ) → Tested (not (leb a b)) (b < a)
+  above a b = meaning (fails (most a b)) (λ none. omega arith, λ high low. omega arith)
 
-  pub bad-line : (m : Memory) (row : Row) (index : ℕ) → T (not (inRangeAt m row index)) ↔ BadAt s m row index
-  bad-line m Records p = (
-    λ t within. T-not (inRangeAt m Records p) t (state-line (stateOf m p) .1 within),
-    λ bad. not-T (inRangeAt m Records p) (λ t. bad (state-line (stateOf m p) .0 t)),
-  )
-  bad-line m Xs block = above-line (getD (m .xs) block 0) (s .n)
-  bad-line m Marks index = above-line (getD (m .marks) index 0) 1
+  pub bad-line : (m : Memory) (row : Row) (index : ℕ) → Tested (not (inRangeAt m row index)) (BadAt s m row index)
+  bad-line m Records p = fails (state-line (stateOf m p))
+  bad-line m Xs block = above (getD (m .xs) block 0) (s .n)
+  bad-line m Marks index = above (getD (m .marks) index 0) 1
 
 -- ---- 4 to 7: the task
 
+-- two kinds that differ
+other-kind : {A : Type 0} (kind kind′ : Kind) → (kind ≡ kind′ → ⊥) → Tested false ((kind ≡ kind′) × A)
+other-kind kind kind′ other = never (λ h. other (h .0))
+
 -- 5
-pub release-line : (s : Settings) (kind : Kind) → T (oneTimeRelease s kind) ↔ ((kind ≡ Release) × (s .mode ≡ 0))
-release-line s Ask = (λ t. absurd t, λ h. let e = h .0 in let z : _≡_ {A = ℕ} 0 1 = cc in absurd (omega arith))
-release-line s Turn = (λ t. absurd t, λ h. let e = h .0 in let z : _≡_ {A = ℕ} 0 1 = cc in absurd (omega arith))
-release-line s Release = (λ t. (refl, eqb→eq (s .mode) 0 t), λ h. rw (eq-eqb (s .mode) 0 (h .1)) tt)
+pub release-line : (s : Settings) (kind : Kind) → Tested (oneTimeRelease s kind) ((kind ≡ Release) × (s .mode ≡ 0))
+release-line s Ask = other-kind Ask Release (λ e. let z : _≡_ {A = ℕ} 0 1 = cc in omega arith)
+release-line s Turn = other-kind Turn Release (λ e. let z : _≡_ {A = ℕ} 0 1 = cc in omega arith)
+release-line s Release = meaning (same (s .mode) 0) (λ e. (refl, e), λ h. h .1)
 
 -- 6
-pub moment-line : (kind : Kind) (state : State) → T (wrongMoment kind state) ↔ NotTheMoment kind state
-moment-line Ask Idle = (λ t. absurd t, λ h. h refl)
-moment-line Ask (Seeking r c point) = (λ t e. let z : _≡_ {A = ℕ} 0 1 = cc in absurd (omega arith), λ h. tt)
-moment-line Ask (Holding r c) = (λ t e. let z : _≡_ {A = ℕ} 0 1 = cc in absurd (omega arith), λ h. tt)
-moment-line Turn Idle = (λ t i j at e. let z : _≡_ {A = ℕ} 0 1 = cc in absurd (omega arith), λ h. tt)
-moment-line Turn (Seeking r c point) = (λ t. absurd t, λ h. h r c point refl)
-moment-line Turn (Holding r c) = (λ t i j at e. let z : _≡_ {A = ℕ} 0 1 = cc in absurd (omega arith), λ h. tt)
-moment-line Release Idle = (λ t i j e. let z : _≡_ {A = ℕ} 0 1 = cc in absurd (omega arith), λ h. tt)
-moment-line Release (Seeking r c point) = (λ t i j e. let z : _≡_ {A = ℕ} 0 1 = cc in absurd (omega arith), λ h. tt)
-moment-line Release (Holding r c) = (λ t. absurd t, λ h. h r c refl)
+idle-tested : (state : State) → Tested (isIdle state) (state ≡ Idle)
+idle-tested Idle = always refl
+idle-tested (Seeking r c point) = never (λ e. let z : _≡_ {A = ℕ} 0 1 = cc in omega arith)
+idle-tested (Holding r c) = never (λ e. let z : _≡_ {A = ℕ} 0 1 = cc in omega arith)
+
+seeking-tested : (state : State) → Tested (not (isSeeking state)) ((r c : ℕ) (point : Point) → state ≡ Seeking r c point → ⊥)
+seeking-tested Idle = always (λ r c point e. let z : _≡_ {A = ℕ} 0 1 = cc in omega arith)
+seeking-tested (Seeking r c point) = never (λ none. none r c point refl)
+seeking-tested (Holding r c) = always (λ r c point e. let z : _≡_ {A = ℕ} 0 1 = cc in omega arith)
+
+holding-tested : (state : State) → Tested (not (isHolding state)) ((r c : ℕ) → state ≡ Holding r c → ⊥)
+holding-tested Idle = always (λ r c e. let z : _≡_ {A = ℕ} 0 1 = cc in omega arith)
+holding-tested (Seeking r c point) = always (λ r c e. let z : _≡_ {A = ℕ} 0 1 = cc in omega arith)
+holding-tested (Holding r c) = never (λ none. none r c refl)
+
+pub moment-line : (kind : Kind) (state : State) → Tested (wrongMoment kind state) (NotTheMoment kind state)
+moment-line Ask state = fails (idle-tested state)
+moment-line Turn state = seeking-tested state
+moment-line Release state = holding-tested state
 
 -- 7
 out-same : (state : State) → isOut state ≡ seeksOrHolds state
@@ -151,7 +134,7 @@ out-same (Holding r c) = refl
 pub tasks-out : (s : Settings) (m : Memory) → outOf s (m .records) ≡ tasksOut s m
 tasks-out s m = count-same (λ p. isOut (stateOf m p)) (λ p. seeksOrHolds (stateOf m p)) (s .n) (λ p l. out-same (stateOf m p))
 
-pub out-line : (s : Settings) (kind : Kind) (m : Memory) → T (tooManyOut s kind (outOf s (m .records))) ↔ ((kind ≡ Ask) × (s .k ≤ tasksOut s m))
-out-line s Ask m = rw (tasks-out s m) (λ t. (refl, leb→le (s .k) (tasksOut s m) t), λ h. le→leb (s .k) (tasksOut s m) (h .1))
-out-line s Turn m = (λ t. absurd t, λ h. let e = h .0 in let z : _≡_ {A = ℕ} 0 1 = cc in absurd (omega arith))
-out-line s Release m = (λ t. absurd t, λ h. let e = h .0 in let z : _≡_ {A = ℕ} 0 1 = cc in absurd (omega arith))
+pub out-line : (s : Settings) (kind : Kind) (m : Memory) → Tested (tooManyOut s kind (outOf s (m .records))) ((kind ≡ Ask) × (s .k ≤ tasksOut s m))
+out-line s Ask m = rw (tasks-out s m) (meaning (most (s .k) (tasksOut s m)) (λ many. (refl, many), λ h. h .1))
+out-line s Turn m = other-kind Turn Ask (λ e. let z : _≡_ {A = ℕ} 0 1 = cc in omega arith)
+out-line s Release m = other-kind Release Ask (λ e. let z : _≡_ {A = ℕ} 0 1 = cc in omega arith)

@@ -55,7 +55,7 @@ module _ (s : Settings) (l : WithinLimits s) (p : ℕ) (low : p < s .n) where
 
   turn-one : (r c : ℕ) (point : Point) → StateWithin s (Seeking r c point)
       → T (touches (access s Turn p (Seeking r c point))) × RegisterNeeded s (access s Turn p (Seeking r c point))
-  turn-one r c point good = point-one r c point (good .0) (point-line s l point .1 (good .1))
+  turn-one r c point good = point-one r c point (good .0) (point-line s l point .shows (good .1))
 
 pub one-access : EachOneAccess
 one-access s ok p low = record {
@@ -79,7 +79,7 @@ module _ (s : Settings) (l : WithinLimits s) (p : ℕ) (low : p < s .n) where
   pub access-needed : (kind : Kind) (state : State) → T (stateInRange s state) → RegisterNeeded s (access s kind p state)
   access-needed Ask state good = tt
   access-needed Turn Idle good = tt
-  access-needed Turn (Seeking r c point) good = one-access s l p low .turn r c point (state-line s l (Seeking r c point) .0 good) .1
+  access-needed Turn (Seeking r c point) good = one-access s l p low .turn r c point (state-line s l (Seeking r c point) .says good) .1
   access-needed Turn (Holding r c) good = tt
   access-needed Release Idle good = tt
   access-needed Release (Seeking r c point) good = tt

@@ -24,11 +24,6 @@ use Rattle.machine.specs.OneAccess.{AcceptedIn}
 use Rattle.machine.proofs.Lines.{neededOf, inRangeAt, needs-line, bad-line, moment-line}
 use Rattle.machine.proofs.Refusing.{accepted-zero, ruled, within, call-refused}
 
--- a test that does not fail is passed
-stable : (b : Bool) → (T (not b) → ⊥) → T b
-stable true no-fail = tt
-stable false no-fail = no-fail tt
-
 -- settings within the limits, and each lent row as long as needed
 pub record Lendable (s : Settings) (m : Memory) : Type 0 where
   pub limits : WithinLimits s
@@ -44,11 +39,15 @@ lendable s m fair long =
     let marks : length (m .marks) < marksNeeded s → ⊥ = λ h. long (inr (inr (needs-line s l Marks _ .0 h))) in
     record { limits = l; records = omega arith; xs = omega arith; marks = omega arith }
 
+not-not : (b : Bool) → (T (not b) → ⊥) → T b
+not-not true no-fail = tt
+not-not false no-fail = no-fail tt
+
 -- a needed value of a row that has none out of range is in range
 in-range-at : (s : Settings) (l : WithinLimits s) (m : Memory) (row : Row) → (SomeOutOfRange s m row → ⊥) → (index : ℕ) → index < neededOf s row
     → T (inRangeAt s l m row index)
 in-range-at s l m row none index low =
-    stable (inRangeAt s l m row index) (λ bad. none (index, (needs-line s l row index .0 low, bad-line s l m row index .0 bad)))
+    not-not (inRangeAt s l m row index) (λ t. none (index, (needs-line s l row index .0 low, bad-line s l m row index .says t)))
 
 -- what the tests of a call tell of the memory and of its task
 pub record Passed (s : Settings) (event : Event) (m : Memory) : Type 0 where
@@ -74,7 +73,7 @@ passed s event m t =
       in-range = in-range-at s l m Records records (event .task .0) low;
       marks = in-range-at s l m Marks marks;
       releases = λ release once. lived (release, once);
-      moment = λ wrong. moment (moment-line (event .kind) (stateOf m (event .task .0)) .0 wrong);
+      moment = λ wrong. moment (moment-line (event .kind) (stateOf m (event .task .0)) .says wrong);
     }
 
 -- an accepted call does what the rules say

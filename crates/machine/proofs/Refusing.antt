@@ -7,7 +7,6 @@ use Prim.Native.Nat.{ℕ, _≤_}
 use native.Mathlib.Omega.{arith}
 use lib.Dec.{T}
 use lib.ListN.{length}
-use Rattle.machine.specs.Settings.{permitted}
 use Rattle.machine.specs.Memory.{Memory, stateOf, viewOf, outOf}
 use Rattle.machine.specs.Refusals.{Case, first, lentCases, rangeCases, taskCases, outsideLimits, rowShort, setupVerdict}
 use Rattle.machine.specs.Answers.{Said, said, refusalSaid, numberOf, isAccepted}
@@ -26,10 +25,10 @@ use Rattle.machine.specs.declared.View.{View}
 use Rattle.machine.specs.declared.Verdict.{Verdict}
 use Rattle.machine.specs.declared.Answer.{Answer}
 use Rattle.machine.specs.declared.Answer.the-variants.{Done, Seeks, Holds, Freed, Refused}
-use Rattle.machine.proofs.Bools.{is-true, is-false}
-use Rattle.machine.proofs.Limits.{limits, permits, limits-line}
-use Rattle.machine.proofs.Lines.{short-line, most-line, release-line, moment-line, out-line}
-use Rattle.machine.proofs.BadValue.{found, found-line, first-found}
+use Rattle.machine.proofs.Tested.{most, fails, passes, misses, cannot-fail}
+use Rattle.machine.proofs.Limits.{limits-tested}
+use Rattle.machine.proofs.Lines.{short-line, release-line, moment-line, out-line}
+use Rattle.machine.proofs.BadValue.{found-line, first-found}
 use Rattle.machine.proofs.Deciding.{refusal-says, Are, refused-exactly, refusal-keeps}
 
 -- ---- what answers say
@@ -69,17 +68,13 @@ ruled-accepted s event m =
 
 -- settings that are not outside the limits are within
 pub within : (s : Settings) → ((WithinLimits s → ⊥) → ⊥) → WithinLimits s
-within s fair = go (permitted s) refl
-  where
-    go : (b : Bool) → permitted s ≡ b → WithinLimits s
-    go true e = limits s (rw e tt)
-    go false e = absurd (fair (λ l. let z : T false = rw e at (permits s l) in z))
+within s = cannot-fail (limits-tested s)
 
 -- 1 and 2, whichever task looks; what follows is tested within the limits
 lent-are : (s : Settings) (p : ℕ) (m : Memory) (cases : List Case) (lines : List Line) → (WithinLimits s → Are cases lines)
     → Are (lentCases s (viewOf s (m .records) p) (m .xs) (m .marks) cases) (lentLines s m lines)
 lent-are s p m cases lines rest = (
-  record { numbered = refl; tested = limits-line s },
+  record { numbered = refl; tested = fails (limits-tested s) },
   λ fair. (record { numbered = refl; tested = short-line s (within s fair) m }, λ whole. rest (within s fair)),
 )
 
@@ -101,7 +96,7 @@ module _ (s : Settings) (event : Event) (m : Memory) where
   -- 4 to 7
   task-are : Are (taskCases s (event .kind) (event .task .0) seen) (taskLines s event m)
   task-are = (
-    record { numbered = refl; tested = most-line (s .n) (event .task .0) },
+    record { numbered = refl; tested = most (s .n) (event .task .0) },
     λ known. (
       record { numbered = refl; tested = release-line s (event .kind) },
       λ lived. (
@@ -136,23 +131,20 @@ module _ (s : Settings) (event : Event) (m : Memory) where
       l = within s fair
 
       inside : outsideLimits s ≡ false
-      inside = is-false _ (λ t. fair (limits-line s .0 t))
+      inside = misses (fails (limits-tested s)) fair
 
       whole : rowShort s (length (m .records)) (m .xs) (m .marks) ≡ false
-      whole = is-false _ (λ t. long (short-line s l m .0 t))
+      whole = misses (short-line s l m) long
 
       go : FirstHolds (rangeLines s m (taskLines s event m)) 3
           → TellsFirstBad s m (said (refuseOr (first heldCases) m (ruled s event m) .answer) .values)
-      go (inl (bad, e)) = let t = found-line s l m Records .1 bad in rw (is-true (found s l m Records) t) (in-records (first-found s l m Records t))
+      go (inl (bad, e)) = rw (passes (found-line s l m Records) bad) (in-records (first-found s l m Records (found-line s l m Records .shows bad)))
       go (inr (records, inl (bad, e))) =
-          let t = found-line s l m Xs .1 bad in
-          let none = is-false (found s l m Records) (λ u. records (found-line s l m Records .0 u)) in
-          rw (none, is-true (found s l m Xs) t) (in-xs records (first-found s l m Xs t))
+          rw (misses (found-line s l m Records) records, passes (found-line s l m Xs) bad)
+          (in-xs records (first-found s l m Xs (found-line s l m Xs .shows bad)))
       go (inr (records, inr (xs, inl (bad, e)))) =
-          let t = found-line s l m Marks .1 bad in
-          let none = is-false (found s l m Records) (λ u. records (found-line s l m Records .0 u)) in
-          let none-of-xs = is-false (found s l m Xs) (λ u. xs (found-line s l m Xs .0 u)) in
-          rw (none, none-of-xs, is-true (found s l m Marks) t) (in-marks records xs (first-found s l m Marks t))
+          rw (misses (found-line s l m Records) records, misses (found-line s l m Xs) xs, passes (found-line s l m Marks) bad)
+          (in-marks records xs (first-found s l m Marks (found-line s l m Marks .shows bad)))
       go (inr (records, inr (xs, inr (marks, inl (four, e))))) = absurd (omega arith)
       go (inr (records, inr (xs, inr (marks, inr (known, inl (five, e)))))) = absurd (omega arith)
       go (inr (records, inr (xs, inr (marks, inr (known, inr (lived, inl (six, e))))))) = absurd (omega arith)

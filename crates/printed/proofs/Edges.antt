@@ -7,7 +7,6 @@ use Prim.Native.Nat.{ℕ, _<_}
 use native.Mathlib.Omega.{arith}
 use lib.Dec.{T, eqb}
 use borrow.Author.Tests.{le-leb, lt-leb}
-use Rattle.machine.specs.Settings.{permitted}
 use Rattle.machine.specs.Places.{half, placeNumber}
 use Rattle.machine.specs.Memory.{Memory, count, firstBad}
 use Rattle.machine.specs.Turn.{arrive}
@@ -25,8 +24,8 @@ use Rattle.machine.specs.declared.Verdict.{Verdict}
 use Rattle.machine.specs.declared.Row.the-variants.{Records, Xs, Marks}
 use Rattle.machine.specs.declared.Refusal.the-variants.{OneTime}
 use Rattle.machine.specs.declared.Answer.the-variants.{Refused}
-use Rattle.machine.proofs.Bools.{is-false}
-use Rattle.machine.proofs.Limits.{limits, permits, mode-most}
+use Rattle.machine.proofs.Tested.{misses}
+use Rattle.machine.proofs.Limits.{zero-or-one, limits-tested, limits, permits, mode-most}
 use Rattle.machine.proofs.Lines.{short-line}
 use Rattle.machine.proofs.BadValue.{found-line}
 use Rattle.machine.proofs.Refusing.{within}
@@ -96,10 +95,10 @@ met-none s m (fair, (long, (records, (xs, (marks, last))))) =
     let l = within s fair in
     record {
       limits = permits s l;
-      rows = is-false _ (λ t. long (short-line s l m .0 t));
-      records = is-false _ (λ t. records (found-line s l m Records .0 t));
-      xs = is-false _ (λ t. xs (found-line s l m Xs .0 t));
-      marks = is-false _ (λ t. marks (found-line s l m Marks .0 t));
+      rows = misses (short-line s l m) long;
+      records = misses (found-line s l m Records) records;
+      xs = misses (found-line s l m Xs) xs;
+      marks = misses (found-line s l m Marks) marks;
     }
 
 one-time-release : (s : Settings) (m : Memory) → s .mode ≡ 0 → Passes s m → (p : ℕ) → p < s .n → call s (release p) m .answer ≡ Refused OneTime
@@ -114,13 +113,19 @@ no-release-idle s lent ok one-time = one-time-release s (setup s lent .memory) o
 -- ---- the edges of the limits
 
 setups-taken : SetupsTaken
-setups-taken mode n k mode-most n-least n-most k-least k-most k-within =
+setups-taken mode n k modes n-least n-most k-least k-most k-within =
     setup-takes-largest (settings mode n k)
-    (limits (settings mode n k)
-    (rw (le-leb mode 1 mode-most, le-leb 1 n n-least, le-leb n 256 n-most, le-leb 1 k k-least, le-leb k 16 k-most, le-leb k n k-within) tt))
+    (record {
+      modes = zero-or-one mode .0 modes;
+      n-least = n-least;
+      n-most = n-most;
+      k-least = k-least;
+      k-most = k-most;
+      k-within = k-within;
+    })
 
 outside-refused : OutsideRefused
-outside-refused s outside m event = rw (is-false (permitted s) (λ t. not-within (limits s t) outside)) (refl, refl)
+outside-refused s outside m event = rw (misses (limits-tested s) (λ l. not-within l outside)) (refl, refl)
   where
     not-within : WithinLimits s → (s .k ≡ 17) ⊎ (((s .k ≡ 3) × (s .n ≡ 2)) ⊎ ((s .n ≡ 257) ⊎ (s .mode ≡ 2))) → ⊥
     not-within l (inl e) = omega (arith, l .k-most)

@@ -8,3 +8,4 @@ pub mod EndLine
 -- the table of 01's edges
 pub mod OneTimePair
 pub mod Edges
+pub mod Samples

@@ -1,6 +1,6 @@
 -- Listing a file is refused exactly where the room is short, and else leaves the listing at the start of the room.
 use mathlib.Core.Path.{_≡_, refl, sym, ap, _∙_}
-use mathlib.Core.Logic.{_⊎_, inl, inr, ⊎-elim, _↔_, Iff·trans}
+use mathlib.Core.Logic.{_⊎_, inl, inr, ⊎-elim, _↔_}
 use mathlib.Core.List.{List, [], _∷_}
 use Prim.Native.Nat.{ℕ, _<_}
 use native.Mathlib.Omega.{arith}
@@ -13,7 +13,7 @@ use Rattle.machine.specs.declared.Opening.{Opening}
 use Rattle.machine.specs.declared.Refusal.the-variants.{ShortRoom}
 use Rattle.machine.specs.declared.Verdict.{Verdict}
 use Rattle.machine.specs.declared.Verdict.the-variants.{Accepted}
-use Rattle.machine.proofs.Lines.{below-line}
+use Rattle.machine.proofs.Tested.{below, meaning}
 use Rattle.machine.proofs.Deciding.{refusal-says, Are, refused-exactly, accepted-verdict, refusal-keeps}
 use Rattle.file.specs.File.{opening, openingSaid, writingSaid}
 use Rattle.file.specs.Refusing.{inHeader, sixteen, openLines}
@@ -48,7 +48,7 @@ module _ (file room : List ℕ) where
   listed-passed = accepted-verdict says refl (λ why. refl) (listVerdict file room)
 
   room-are : Are (when (ltb (length room) (roomFor file)) ShortRoom ∷ []) (listLines file room)
-  room-are = (record { numbered = refl; tested = Iff·trans (below-line (length room) (roomFor file)) short-line }, λ fits. tt)
+  room-are = (record { numbered = refl; tested = meaning (below (length room) (roomFor file)) short-line }, λ fits. tt)
 
   pub each-listing : ListingTold file room
   each-listing = record {

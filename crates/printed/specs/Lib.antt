@@ -5,3 +5,4 @@ pub mod Listed
 pub mod Refusing
 pub mod EndLine
 pub mod Edges
+pub mod Samples

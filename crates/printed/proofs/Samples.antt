@@ -1,0 +1,10 @@
+-- Two listings, by computing them.
+use mathlib.Core.Path.{refl}
+use Rattle.machine.specs.Places.{half}
+use Rattle.machine.specs.Memory.{count}
+use Rattle.text.specs.Decimal.{decimal}
+use Rattle.printed.specs.Samples.{Samples}
+
+pub samples : Samples
+unfolding half count decimal
+samples = record { settings-in-order = refl; refused-only = refl }
