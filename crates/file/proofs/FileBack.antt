@@ -11,11 +11,12 @@ use lib.ListN.{length, getD, drop, drop-of-length-le}
 use lib.Seq.{drop-cons}
 use borrow.Author.Tests.{ltb-false, eqb-true}
 use Rattle.machine.specs.Refusals.{first}
-use Rattle.file.specs.File.{eventNumber, readingSaid, fileLength, byteAt, lettersRight, settingsOf, countOf, codeAt, eventAt, codeBad, anyBelow, headerCases, Read, headerBytes, codeIn, eventBytes, eventsBytes, fileBytes, numberBad, writing}
+use Rattle.counting.specs.Counting.{anyBelow}
+use Rattle.file.specs.File.{eventNumber, readingSaid, fileLength, byteAt, lettersRight, settingsOf, countOf, codeAt, eventAt, codeBad, headerCases, Read, headerBytes, codeIn, eventBytes, eventsBytes, fileBytes, numberBad, writing}
 use Rattle.machine.specs.declared.Verdict.the-variants.{Accepted}
 use Rattle.file.specs.RoundTrip.{eventsRead, Bytes, FileComesBack}
 use Rattle.file.proofs.Numbers.{low-of-word, high-of-word, event-of-bytes}
-use Rattle.file.proofs.Search.{none-below, each-none}
+use Rattle.counting.proofs.Some.{none-below, each-none}
 use Rattle.file.proofs.Writes.{Writable, filled, writable-written}
 use Rattle.file.proofs.Headers.{Header, header-accepted, Accepts, file-accepted, reading-given}
 

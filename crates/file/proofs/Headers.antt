@@ -9,7 +9,8 @@ use borrow.Author.Tests.{ltb-false, eqb-true, not-false, le-ltb, le-leb, lt-leb,
 use Rattle.machine.specs.Settings.{permitted}
 use Rattle.machine.specs.Refusals.{first}
 use Rattle.machine.proofs.Deciding.{no-case}
-use Rattle.file.specs.File.{mostEvents, fileLength, lettersRight, versionOf, settingsOf, countOf, anyBelow, codeBad, eventAt, headerCases, openVerdict, openingBy, opening, Read, readBy, reading, codeCases, eventCases}
+use Rattle.counting.specs.Counting.{anyBelow}
+use Rattle.file.specs.File.{mostEvents, fileLength, lettersRight, versionOf, settingsOf, countOf, codeBad, eventAt, headerCases, openVerdict, openingBy, opening, Read, readBy, reading, codeCases, eventCases}
 use Rattle.machine.specs.declared.Settings.{Settings}
 use Rattle.machine.specs.declared.Refusal.{Refusal}
 use Rattle.machine.specs.declared.Refusal.the-variants.{NoEvent}

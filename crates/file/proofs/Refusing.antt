@@ -19,10 +19,11 @@ use Rattle.machine.specs.declared.Refusal.{Refusal}
 use Rattle.machine.specs.declared.Verdict.{Verdict}
 use Rattle.machine.specs.declared.Verdict.the-variants.{Accepted}
 use Rattle.machine.specs.declared.Reading.{Reading}
-use Rattle.machine.proofs.Tested.{Tested, below, most, same, both, either, fails, meaning, never}
+use Rattle.counting.proofs.Tested.{Tested, below, most, same, both, either, fails, meaning, never}
 use Rattle.machine.proofs.Limits.{limits-tested}
 use Rattle.machine.proofs.Deciding.{Are, refused-exactly, accepted-verdict, refusal-keeps}
-use Rattle.file.specs.File.{lettersRight, versionOf, settingsOf, countOf, codeAt, taskAt, eventAt, anyBelow, codeBad, headerCases, codeCases, openVerdict, openingBy, opening, kindOf, eventCases, eventVerdict, readBy, reading, fileLength, fileBytes, numberBad, writeCases, writeVerdict, writtenBy, writing, openingSaid, readingSaid, writingSaid}
+use Rattle.counting.specs.Counting.{anyBelow}
+use Rattle.file.specs.File.{lettersRight, versionOf, settingsOf, countOf, codeAt, taskAt, eventAt, codeBad, headerCases, codeCases, openVerdict, openingBy, opening, kindOf, eventCases, eventVerdict, readBy, reading, fileLength, fileBytes, numberBad, writeCases, writeVerdict, writtenBy, writing, openingSaid, readingSaid, writingSaid}
 use Rattle.file.specs.Refusing.{byte, sixteen, headerLines, codeLines, openLines, eventLines, nextLines, writeLines, OpeningTold, EachOpening, Gives, ReadingTold, EachReading, WritingTold, EachWriting, WriterTakes}
 use Rattle.file.proofs.Numbers.{kind-code}
 use Rattle.file.proofs.Lengths.{length-file}

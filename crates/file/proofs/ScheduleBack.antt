@@ -12,7 +12,8 @@ use borrow.Author.Tests.{ltb-false, le-ltb, not-false}
 use Rattle.machine.specs.Settings.{permitted}
 use Rattle.machine.specs.Refusals.{first}
 use Rattle.machine.specs.Answers.{Said}
-use Rattle.file.specs.File.{mostEvents, writeCases, eventNumber, readingSaid, writingSaid, fileLength, settingsOf, countOf, codeAt, eventAt, codeBad, anyBelow, headerCases, opening, Read, reading, headerBytes, codeIn, eventBytes, eventsBytes, fileBytes, numberBad, writeVerdict, writtenBy, writing}
+use Rattle.counting.specs.Counting.{anyBelow}
+use Rattle.file.specs.File.{mostEvents, writeCases, eventNumber, readingSaid, writingSaid, fileLength, settingsOf, countOf, codeAt, eventAt, codeBad, headerCases, opening, Read, reading, headerBytes, codeIn, eventBytes, eventsBytes, fileBytes, numberBad, writeVerdict, writtenBy, writing}
 use Rattle.machine.specs.declared.Settings.{Settings}
 use Rattle.machine.specs.declared.Verdict.{Verdict}
 use Rattle.machine.specs.declared.Verdict.the-variants.{Accepted, Refused}
@@ -22,7 +23,7 @@ use Rattle.machine.proofs.Limits.{limits}
 use Rattle.file.specs.RoundTrip.{eventsRead, Tells, Holds, ScheduleComesBack}
 use Rattle.file.proofs.Numbers.{bytes-of-word, bytes-of-event}
 use Rattle.file.proofs.Lengths.{length-file}
-use Rattle.file.proofs.Search.{none-below, each-none}
+use Rattle.counting.proofs.Some.{none-below, each-none}
 use Rattle.machine.proofs.Deciding.{no-case}
 use Rattle.file.proofs.Headers.{Header, header-accepts, opening-passed, reading-given, reading-ends}
 use Rattle.file.proofs.Refusing.{wrote, each-writing}

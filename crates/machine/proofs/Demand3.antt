@@ -5,7 +5,7 @@ use mathlib.Core.Path.{_≡_, sym, _∙_}
 use native.Mathlib.Decide.{ℕ-discrete}
 use native.Mathlib.Omega.{arith}
 use Rattle.machine.specs.Demands.{HeldNamesDiffer, HeldNamesBelow, LastAnswerTrue, HeldNameAnswered, SeekerNeverRefused, bound, ServedWithin, BoundExact, SetupTakes}
-use Rattle.machine.proofs.Triangle.{name-numbering}
+use Rattle.machine.proofs.Numbering.{name-numbering}
 use Rattle.machine.proofs.Names.{held-place, one-place}
 use Rattle.machine.proofs.Told.{told}
 use Rattle.machine.proofs.Told as told

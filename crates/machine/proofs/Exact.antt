@@ -9,7 +9,8 @@ use lib.Dec.{T}
 use lib.ListN.{length, replicate, length-replicate}
 use borrow.Author.Tests.{le-ltb, not-false}
 use Rattle.machine.specs.Settings.{permitted}
-use Rattle.machine.specs.Places.{half, blocks}
+use Rattle.grid.specs.Triangle.{half}
+use Rattle.machine.specs.Places.{blocks}
 use Rattle.machine.specs.Records.{idle, isSeeking}
 use Rattle.machine.specs.Memory.{Memory, marksNeeded, stateOf, largest}
 use Rattle.machine.specs.Answers.{isAccepted}
@@ -19,9 +20,9 @@ use Rattle.machine.specs.Worst.{worst}
 use Rattle.machine.specs.Demands.{SetUp, memoryAfter, historyOf, Seeks, HoldsSome, allAccepted, NeedsBound}
 use Rattle.machine.specs.declared.Settings.{Settings}
 use Rattle.machine.specs.declared.Event.{Event}
-use Rattle.machine.proofs.Bools.{is-true}
+use Rattle.counting.proofs.Bools.{is-true}
 use Rattle.machine.proofs.Limits.{limits, permits, width-most}
-use Rattle.machine.proofs.Triangle.{half-square}
+use Rattle.grid.proofs.Triangle.{half-square}
 use Rattle.machine.proofs.Fresh.{setup-permitted}
 use Rattle.machine.proofs.Outcomes.{Called, taken, refused, called}
 use Rattle.machine.proofs.Histories.{always-fine}

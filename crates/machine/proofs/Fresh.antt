@@ -11,7 +11,8 @@ use borrow.Author.Tests.{le-ltb}
 use Rattle.machine.specs.Settings.{permitted}
 use Rattle.machine.specs.Places.{blocks}
 use Rattle.machine.specs.Records.{idle, isOut, recordInRange}
-use Rattle.machine.specs.Memory.{Memory, marksNeeded, stateOf, xInRange, markInRange, firstBad, badRecord, badX, badMark, outOf, fill}
+use Rattle.counting.specs.Counting.{firstBad}
+use Rattle.machine.specs.Memory.{Memory, marksNeeded, stateOf, xInRange, markInRange, badRecord, badX, badMark, outOf, fill}
 use Rattle.machine.specs.Refusals.{first, when, outsideLimits, rowShort, noSuchTask, oneTimeRelease, wrongMoment, tooManyOut}
 use Rattle.machine.specs.Calls.{Outcome, refuseOr, verdictOf, cleared, setup}
 use Rattle.machine.specs.Demands.{SetUp}
@@ -21,8 +22,8 @@ use Rattle.machine.specs.declared.Record.{Record}
 use Rattle.machine.specs.declared.Event.{Event}
 use Rattle.machine.specs.declared.Refusal.the-variants.{Limits, ShortRow, NoSuchTask, OneTime, WrongMoment, TooManyOut}
 use Rattle.machine.specs.declared.Answer.{Answer}
-use Rattle.machine.proofs.Bools.{is-true}
-use Rattle.machine.proofs.Searching.{none-bad, count-none}
+use Rattle.counting.proofs.Bools.{is-true}
+use Rattle.counting.proofs.Searching.{none-bad, count-none}
 
 -- ---- rows that were filled
 

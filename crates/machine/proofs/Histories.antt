@@ -10,7 +10,8 @@ use lib.Dec.{T}
 use borrow.Author.Tests.{leb-false}
 use Rattle.machine.specs.Settings.{permitted, width}
 use Rattle.machine.specs.Records.{isOut}
-use Rattle.machine.specs.Memory.{Memory, marksNeeded, stateOf, outOf, count, fill}
+use Rattle.counting.specs.Counting.{count}
+use Rattle.machine.specs.Memory.{Memory, marksNeeded, stateOf, outOf, fill}
 use Rattle.machine.specs.Refusals.{wrongMoment}
 use Rattle.machine.specs.Calls.{Outcome, call, accept, setup}
 use Rattle.machine.specs.History.{run, Answered, history}
@@ -21,15 +22,15 @@ use Rattle.machine.specs.declared.State.the-variants.{Idle, Seeking, Hol
 use Rattle.machine.specs.declared.Kind.{Kind}
 use Rattle.machine.specs.declared.Kind.the-variants.{Ask, Turn, Release}
 use Rattle.machine.specs.declared.Event.{Event}
-use Rattle.machine.proofs.Bools.{is-false}
+use Rattle.counting.proofs.Bools.{is-false}
 use Rattle.machine.proofs.Limits.{limits}
-use Rattle.machine.proofs.Searching.{count-none}
+use Rattle.counting.proofs.Searching.{count-none}
 use Rattle.machine.proofs.Fresh.{fill-at, setup-permitted, setup-memory, fresh-passes, fresh-idle, fresh-none-out}
-use Rattle.machine.proofs.Counting.{count-most, count-but-one}
-use Rattle.machine.proofs.Cover.{beyond, beyond-out}
-use Rattle.machine.proofs.Stands.{Rules, idle, Grid, Marks, HoldsAt, columnReach}
-use Rattle.machine.proofs.Covered.{reachOf}
-use Rattle.machine.proofs.Invariant.{AllInPlace, Invariant, invariant-kept}
+use Rattle.counting.proofs.Counting.{count-most, count-but-one}
+use Rattle.grid.proofs.Cover.{beyond, beyond-out}
+use Rattle.grid.proofs.Stands.{Rules, idle, Grid, Marks, HoldsAt, columnReach}
+use Rattle.grid.proofs.Covered.{reachOf}
+use Rattle.grid.proofs.Invariant.{AllInPlace, Invariant, invariant-kept}
 use Rattle.machine.proofs.Seen.{rulesOf, standOf, gridOf, all-unmarked}
 use Rattle.machine.proofs.Sound.{Sound, passes-sound, accept-sound}
 use Rattle.machine.proofs.Steps.{in-place, others-after, accepted-step}

@@ -2,13 +2,10 @@
 
 -- tests and numbers
 pub mod Tests
-pub mod Bools
-pub mod Tested
 pub mod Limits
 pub mod Ranges
 pub mod Turning
-pub mod Triangle
-pub mod Searching
+pub mod Numbering
 pub mod Determined
 -- what an accepted setup leaves
 pub mod Fresh
@@ -27,15 +24,6 @@ pub mod SettingUp
 pub mod Telling
 pub mod Lent
 -- demand 3: `Demand3` is where to begin
-pub mod Counting
-pub mod Cover
-pub mod Stands
-pub mod Moves
-pub mod Marks
-pub mod Witnesses
-pub mod Holders
-pub mod Covered
-pub mod Invariant
 pub mod Arriving
 pub mod Seen
 pub mod Sound
@@ -45,7 +33,6 @@ pub mod Histories
 pub mod Names
 pub mod Told
 pub mod Seekers
-pub mod Spent
 pub mod Served
 pub mod Leads
 pub mod WorstTurns

@@ -11,8 +11,8 @@ use Rattle.machine.specs.declared.Settings.{Settings}
 use Rattle.machine.specs.declared.State.the-variants.{Holding}
 use Rattle.machine.specs.declared.Event.{Event}
 use Rattle.machine.proofs.Fresh.{setup-permitted}
-use Rattle.machine.proofs.Stands.{InPlace, at, holding}
-use Rattle.machine.proofs.Invariant.{AllInPlace, one-holder}
+use Rattle.grid.proofs.Stands.{InPlace, at, holding}
+use Rattle.grid.proofs.Invariant.{AllInPlace, one-holder}
 use Rattle.machine.proofs.Seen.{gridOf}
 use Rattle.machine.proofs.Histories.{rules, all-in-place, Fine, always-fine}
 

@@ -22,7 +22,7 @@ use Rattle.machine.specs.declared.Event.{Event}
 use Rattle.machine.specs.Ranges.{WithinLimits, StateWithin}
 use Rattle.machine.proofs.Ranges.{scans-a-mark}
 use Rattle.machine.proofs.Lines.{point-line, state-line}
-use Rattle.machine.proofs.Triangle.{block-numbering}
+use Rattle.machine.proofs.Numbering.{block-numbering}
 use Rattle.machine.specs.OneAccess.{XNeeded, MarkNeeded, touches, RegisterNeeded, EachOneAccess, accessOf}
 use Rattle.machine.proofs.Cells.{earlier-block}
 use Rattle.machine.proofs.Passing.{Passed}

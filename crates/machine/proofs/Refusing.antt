@@ -25,7 +25,7 @@ use Rattle.machine.specs.declared.View.{View}
 use Rattle.machine.specs.declared.Verdict.{Verdict}
 use Rattle.machine.specs.declared.Answer.{Answer}
 use Rattle.machine.specs.declared.Answer.the-variants.{Done, Seeks, Holds, Freed, Refused}
-use Rattle.machine.proofs.Tested.{most, fails, passes, misses, cannot-fail}
+use Rattle.counting.proofs.Tested.{most, fails, passes, misses, cannot-fail}
 use Rattle.machine.proofs.Limits.{limits-tested}
 use Rattle.machine.proofs.Lines.{short-line, release-line, moment-line, out-line}
 use Rattle.machine.proofs.BadValue.{found-line, first-found}

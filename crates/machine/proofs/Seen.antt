@@ -16,14 +16,16 @@ use Rattle.machine.specs.Settings.{width, own}
 use Rattle.machine.specs.Places.{blocks, blockNumber}
 use Rattle.machine.specs.Memory.{Memory, marksNeeded, markIndex, stateOf}
 use Rattle.machine.specs.declared.Settings.{Settings}
+use Rattle.machine.specs.declared.Direction.{Direction}
+use Rattle.machine.specs.declared.Direction.the-variants.{Right, Down}
 use Rattle.machine.specs.declared.Point.{Point}
 use Rattle.machine.specs.declared.Point.the-variants.{WriteX, Scan, WriteMark, ReadX, Clear}
 use Rattle.machine.specs.declared.State.{State}
 use Rattle.machine.specs.declared.State.the-variants.{Idle, Seeking, Holding}
 use Rattle.machine.specs.Ranges.{WithinLimits}
-use Rattle.machine.proofs.Triangle.{block-numbering}
-use Rattle.machine.proofs.Stands.{Rules, Stage, fresh, mid, going, holding, Stand, idle, at, Grid}
-use Rattle.machine.proofs.Moves.{PutX, PutMark}
+use Rattle.machine.proofs.Numbering.{block-numbering}
+use Rattle.grid.proofs.Stands.{Way, right, down, Rules, Stage, fresh, mid, going, holding, Stand, idle, at, Grid}
+use Rattle.grid.proofs.Moves.{PutX, PutMark}
 
 -- ---- the settings as rules
 
@@ -68,12 +70,16 @@ rulesOf s l = record {
 
 -- ---- the memory as a grid
 
+abbrev pub wayOf : Direction → Way
+wayOf Right = right
+wayOf Down = down
+
 abbrev pub stageOf : ℕ → Point → Stage
 stageOf W WriteX = fresh
 stageOf W (Scan h) = mid h
 stageOf W WriteMark = mid W
 stageOf W ReadX = mid (W + 1)
-stageOf W (Clear d) = going d
+stageOf W (Clear d) = going (wayOf d)
 
 abbrev pub standOf : ℕ → State → Stand
 standOf W Idle = idle

@@ -29,14 +29,14 @@ use Rattle.machine.specs.declared.Event.{Event}
 use Rattle.machine.proofs.Limits.{limits}
 use Rattle.machine.specs.Ranges.{WithinLimits}
 use Rattle.machine.proofs.Fresh.{setup-permitted, fresh-idle}
-use Rattle.machine.proofs.Stands.{Rules, Stand, idle, at, InPlace}
+use Rattle.grid.proofs.Stands.{Rules, Stand, idle, at, InPlace}
 use Rattle.machine.proofs.Seen.{rulesOf, standOf}
 use Rattle.machine.proofs.Sound.{Sound}
 use Rattle.machine.proofs.Steps.{arrives, in-place, caller-after, others-after, caller-moves}
 use Rattle.machine.proofs.Outcomes.{Called, taken, refused, accepted, accepted-answer, called, open-accepted}
 use Rattle.machine.proofs.Histories.{rules, all-in-place, Fine, fine-kept, fresh-fine, always-fine, run-append, history-append}
 use Rattle.machine.proofs.Seekers.{seeker-open}
-use Rattle.machine.proofs.Spent.{cost, Within, OutWithin, SeeksAt, arrives-within, turn-within, seeking-within, holding-within}
+use Rattle.grid.proofs.Spent.{cost, Within, OutWithin, SeeksAt, arrives-within, turn-within, seeking-within, holding-within}
 
 -- ---- records and stands
 

@@ -30,11 +30,11 @@ use Rattle.machine.specs.declared.Access.{Access}
 use Rattle.machine.specs.declared.Access.the-variants.{NoAccess, XRead, XWritten, MarkRead, MarkWritten}
 use Rattle.machine.specs.declared.Kind.{Kind}
 use Rattle.machine.specs.declared.Kind.the-variants.{Ask, Turn, Release}
-use Rattle.machine.proofs.Bools.{and-in, and-l, and-r}
+use Rattle.counting.proofs.Bools.{and-in, and-l, and-r}
 use Rattle.machine.proofs.Limits.{mode-most, width-least}
 use Rattle.machine.specs.Ranges.{WithinLimits}
 use Rattle.machine.proofs.Turning.{scan-marked, scan-done, scan-on, reads-own, reads-other}
-use Rattle.machine.proofs.Searching.{none-bad, none-bad-all}
+use Rattle.counting.proofs.Searching.{none-bad, none-bad-all}
 use Rattle.machine.proofs.Arriving.{arrive-edge, arrive-block, leave-at-once, leave-clearing, release-clears, release-nothing}
 
 -- J0, value by value

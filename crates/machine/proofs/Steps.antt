@@ -30,13 +30,13 @@ use Rattle.machine.specs.declared.Access.{Access}
 use Rattle.machine.specs.declared.Access.the-variants.{NoAccess, XRead, XWritten, MarkRead, MarkWritten}
 use Rattle.machine.specs.declared.Kind.{Kind}
 use Rattle.machine.specs.declared.Kind.the-variants.{Ask, Turn, Release}
-use Rattle.machine.proofs.Bools.{and-l, and-r}
+use Rattle.counting.proofs.Bools.{and-l, and-r}
 use Rattle.machine.specs.Ranges.{WithinLimits}
 use Rattle.machine.proofs.Limits.{mode-most}
 use Rattle.machine.proofs.Turning.{scan-marked, scan-done, scan-on, reads-own, reads-other}
-use Rattle.machine.proofs.Stands.{Rules, mid, at, InPlace}
-use Rattle.machine.proofs.Moves.{Arrives, block, edge, Goes, Leaves, at-once, clearing, Move, Step, Effect, nothing, writes-x, writes-mark, XChange, MarkChange, asks, begins, passes, meets, marks, wins, loses, clears, frees, departs}
-use Rattle.machine.proofs.Seen.{own-below, rulesOf, stageOf, standOf, xAt, markAt, gridOf, x-on-block, mark-on-block, x-put, mark-put}
+use Rattle.grid.proofs.Stands.{Rules, mid, at, InPlace}
+use Rattle.grid.proofs.Moves.{Arrives, block, edge, Goes, Leaves, at-once, clearing, Move, Step, Effect, nothing, writes-x, writes-mark, XChange, MarkChange, asks, begins, passes, meets, marks, wins, loses, clears, frees, departs}
+use Rattle.machine.proofs.Seen.{wayOf, own-below, rulesOf, stageOf, standOf, xAt, markAt, gridOf, x-on-block, mark-on-block, x-put, mark-put}
 use Rattle.machine.proofs.Arriving.{arrive-edge, arrive-block, leave-at-once, leave-clearing, release-clears, release-nothing}
 use Rattle.machine.proofs.Sound.{Sound}
 
@@ -50,17 +50,17 @@ module _ (s : Settings) (l : WithinLimits s) where
       go (yes e) = subst (λ (to : State). Arrives (s .k) r c (standOf (width s) to)) (arrive-edge s r c e) (edge e)
       go (no d) = subst (λ (to : State). Arrives (s .k) r c (standOf (width s) to)) (arrive-block s r c d) (block {r = r} {c = c} (omega arith))
 
-  goes : (r c : ℕ) (d : Direction) → r + c + 2 ≤ s .k → Goes (s .k) r c d (standOf (width s) (move s r c d))
+  goes : (r c : ℕ) (d : Direction) → r + c + 2 ≤ s .k → Goes (s .k) r c (wayOf d) (standOf (width s) (move s r c d))
   goes r c Right b = arrives r (c + 1) (omega arith)
   goes r c Down b = arrives (r + 1) c (omega arith)
 
-  leaves : (r c : ℕ) (d : Direction) → r + c + 2 ≤ s .k → Leaves (rulesOf s l) r c d (standOf (width s) (leave s r c d))
+  leaves : (r c : ℕ) (d : Direction) → r + c + 2 ≤ s .k → Leaves (rulesOf s l) r c (wayOf d) (standOf (width s) (leave s r c d))
   leaves r c d b = go (l .modes)
     where
-      go : (s .mode ≡ 0) ⊎ (s .mode ≡ 1) → Leaves (rulesOf s l) r c d (standOf (width s) (leave s r c d))
-      go (inl e) = subst (λ (to : State). Leaves (rulesOf s l) r c d (standOf (width s) to)) (leave-at-once s r c d e) (at-once e (goes r c d b))
+      go : (s .mode ≡ 0) ⊎ (s .mode ≡ 1) → Leaves (rulesOf s l) r c (wayOf d) (standOf (width s) (leave s r c d))
+      go (inl e) = subst (λ (to : State). Leaves (rulesOf s l) r c (wayOf d) (standOf (width s) to)) (leave-at-once s r c d e) (at-once e (goes r c d b))
       go (inr e) =
-          subst (λ (to : State). Leaves (rulesOf s l) r c d (standOf (width s) to)) (leave-clearing s r c d (λ z. omega arith)) (clearing e)
+          subst (λ (to : State). Leaves (rulesOf s l) r c (wayOf d) (standOf (width s) to)) (leave-clearing s r c d (λ z. omega arith)) (clearing e)
 
   -- a record in range stands in its place
   pub in-place : (state : State) → T (stateInRange s state) → InPlace (rulesOf s l) (standOf (width s) state)

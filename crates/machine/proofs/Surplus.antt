@@ -23,7 +23,7 @@ use Rattle.machine.specs.declared.Kind.{Kind}
 use Rattle.machine.specs.declared.Event.{Event}
 use Rattle.machine.specs.declared.Verdict.{Verdict}
 use Rattle.machine.specs.declared.Answer.{Answer}
-use Rattle.machine.proofs.Searching.{first-bad-same, count-same}
+use Rattle.counting.proofs.Searching.{first-bad-same, count-same}
 use Rattle.machine.specs.OneAccess.{RegisterNeeded, accessOf, AcceptedIn}
 use Rattle.machine.specs.Surplus.{needed, surplus, SurplusNeverChanges, SurplusNeverBears}
 use Rattle.machine.proofs.Refusing.{ruled, started, ruled-accepted}

@@ -17,7 +17,7 @@ use Rattle.machine.specs.declared.Settings.{Settings}
 use Rattle.machine.specs.declared.Event.{Event}
 use Rattle.machine.specs.Ranges.{WithinLimits}
 use Rattle.machine.proofs.Seen.{rulesOf}
-use Rattle.machine.proofs.Spent.{cost}
+use Rattle.grid.proofs.Spent.{cost}
 use Rattle.machine.proofs.Served.{bound-enough}
 use Rattle.machine.proofs.Leads.{EndsWith, ends-alone, ends-append, ends-nil, writtenTurns, written-append}
 

@@ -9,7 +9,8 @@ use Prim.Native.Nat.{ℕ, _≤_, _<_}
 use lib.Dec.{T}
 use lib.ListN.{length}
 use Rattle.machine.specs.Settings.{width}
-use Rattle.machine.specs.Memory.{Memory, markIndex, stateOf, count}
+use Rattle.counting.specs.Counting.{count}
+use Rattle.machine.specs.Memory.{Memory, markIndex, stateOf}
 use Rattle.machine.specs.Answers.{Said, said, isAccepted}
 use Rattle.machine.specs.Calls.{call, setup}
 use Rattle.machine.specs.Ranges.{WithinLimits, NeedsMore, OutOfRangeAt, SomeOutOfRange, seeksOrHolds}

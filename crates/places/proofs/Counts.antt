@@ -6,7 +6,8 @@ use native.Mathlib.Nat.{mul-le-mul, mul-le-mul-right, suc-mul}
 use mir.Syntax.{w16, w64}
 use mir.Val.{Fits}
 use Rattle.machine.specs.Settings.{width}
-use Rattle.machine.specs.Places.{half, placeNumber, blocks}
+use Rattle.grid.specs.Triangle.{half, placeNumber}
+use Rattle.machine.specs.Places.{blocks}
 use Rattle.machine.specs.Memory.{marksNeeded, markIndex}
 use Rattle.machine.specs.declared.Settings.{Settings}
 use Rattle.machine.proofs.Limits.{width-most}

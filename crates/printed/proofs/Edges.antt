@@ -7,8 +7,9 @@ use Prim.Native.Nat.{ℕ, _<_}
 use native.Mathlib.Omega.{arith}
 use lib.Dec.{T, eqb}
 use borrow.Author.Tests.{le-leb, lt-leb}
-use Rattle.machine.specs.Places.{half, placeNumber}
-use Rattle.machine.specs.Memory.{Memory, count, firstBad}
+use Rattle.grid.specs.Triangle.{half, placeNumber}
+use Rattle.counting.specs.Counting.{count, firstBad}
+use Rattle.machine.specs.Memory.{Memory}
 use Rattle.machine.specs.Turn.{arrive}
 use Rattle.machine.specs.Answers.{isAccepted}
 use Rattle.machine.specs.Calls.{call, setup, verdictOf, standing, ask, release}
@@ -24,7 +25,7 @@ use Rattle.machine.specs.declared.Verdict.{Verdict}
 use Rattle.machine.specs.declared.Row.the-variants.{Records, Xs, Marks}
 use Rattle.machine.specs.declared.Refusal.the-variants.{OneTime}
 use Rattle.machine.specs.declared.Answer.the-variants.{Refused}
-use Rattle.machine.proofs.Tested.{misses}
+use Rattle.counting.proofs.Tested.{misses}
 use Rattle.machine.proofs.Limits.{zero-or-one, limits-tested, limits, permits, mode-most}
 use Rattle.machine.proofs.Lines.{short-line}
 use Rattle.machine.proofs.BadValue.{found-line}

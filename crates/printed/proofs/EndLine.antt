@@ -12,12 +12,13 @@ use lib.ListN.{length, getD, set, length-set, length-replicate, getD-replicate}
 use lib.Seq.{getD-set-same, getD-set-other}
 use borrow.Author.Tests.{eqb-true, eqb-false, lt-ltb, le-ltb}
 use Rattle.machine.specs.Records.{isHolding}
-use Rattle.machine.specs.Memory.{Memory, stateOf, tick, count, largest}
+use Rattle.counting.specs.Counting.{tick, count, anyBelow}
+use Rattle.machine.specs.Memory.{Memory, stateOf, largest}
 use Rattle.machine.specs.Answers.{isAccepted}
 use Rattle.machine.specs.Calls.{Outcome, nameAt, answerOf, call, setup}
 use Rattle.machine.specs.Calls as calls
 use Rattle.machine.specs.History.{Answered, counted, turnsOf}
-use Rattle.file.specs.File.{codeAt, taskAt, eventAt, anyBelow}
+use Rattle.file.specs.File.{codeAt, taskAt, eventAt}
 use Rattle.printed.specs.Listing.{Progress, turnsAfter, completed, progress, listingBy, holdersOf}
 use Rattle.machine.specs.Demands.{memoryAfter, historyOf, used, HoldsSome, bound}
 use Rattle.printed.specs.EndLine.{eventsOf, memoryAt, holdersAt, answerAt, Completes, takenAt, turnsSince, turnsAt, linesOf, Attained, NoneCounts, Greatest, EndLineCounted, EndCountsOne, UsedCounted, MostWithinBound}
@@ -32,7 +33,7 @@ use Rattle.machine.specs.declared.Answer.{Answer}
 use Rattle.machine.specs.declared.Opening.{Opening}
 use Rattle.machine.specs.OneAccess.{AcceptedIn}
 use Rattle.machine.proofs.Limits.{limits}
-use Rattle.machine.proofs.Searching.{count-same, count-none}
+use Rattle.counting.proofs.Searching.{count-same, count-none}
 use Rattle.machine.proofs.Passing.{passed, by-the-rules}
 use Rattle.machine.proofs.Effects.{only-the-register-written-changes}
 use Rattle.machine.proofs.Histories.{run-append, history-append}

@@ -6,7 +6,8 @@ use native.Mathlib.Omega.{arith}
 use lib.Dec.{T}
 use lib.ListN.{getD, set}
 use Rattle.machine.specs.Settings.{permitted, width, own}
-use Rattle.machine.specs.Places.{half, placeNumber, blockNumber, nameNumber}
+use Rattle.grid.specs.Triangle.{half, placeNumber}
+use Rattle.machine.specs.Places.{blockNumber, nameNumber}
 use Rattle.machine.specs.Records.{isOut}
 use Rattle.machine.specs.Memory.{Memory, markIndex, stateOf, outOf}
 use Rattle.machine.specs.Calls.{Outcome, eventOf, answerOf, nextState, accept, setup}
@@ -24,7 +25,7 @@ use Rattle.machine.specs.declared.Event.{Event}
 use Rattle.machine.specs.declared.Answer.{Answer}
 use Rattle.machine.proofs.Limits.{limits}
 use Rattle.machine.proofs.Fresh.{setup-permitted, fresh-idle, fresh-none-out}
-use Rattle.machine.proofs.Counting.{count-but-one}
+use Rattle.counting.proofs.Counting.{count-but-one}
 use Rattle.machine.proofs.Turning.{scan-marked, scan-done, reads-own}
 use Rattle.machine.proofs.Arriving.{arrive-edge, arrive-block, leave-at-once}
 use Rattle.machine.proofs.Seen.{x-on-block, mark-on-block, x-put, mark-put}

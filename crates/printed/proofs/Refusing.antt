@@ -13,7 +13,7 @@ use Rattle.machine.specs.declared.Opening.{Opening}
 use Rattle.machine.specs.declared.Refusal.the-variants.{ShortRoom}
 use Rattle.machine.specs.declared.Verdict.{Verdict}
 use Rattle.machine.specs.declared.Verdict.the-variants.{Accepted}
-use Rattle.machine.proofs.Tested.{below, meaning}
+use Rattle.counting.proofs.Tested.{below, meaning}
 use Rattle.machine.proofs.Deciding.{refusal-says, Are, refused-exactly, accepted-verdict, refusal-keeps}
 use Rattle.file.specs.File.{opening, openingSaid, writingSaid}
 use Rattle.file.specs.Refusing.{inHeader, sixteen, openLines}

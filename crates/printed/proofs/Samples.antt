@@ -1,7 +1,7 @@
 -- Two listings, by computing them.
 use mathlib.Core.Path.{refl}
-use Rattle.machine.specs.Places.{half}
-use Rattle.machine.specs.Memory.{count}
+use Rattle.grid.specs.Triangle.{half}
+use Rattle.counting.specs.Counting.{count}
 use Rattle.text.specs.Decimal.{decimal}
 use Rattle.printed.specs.Samples.{Samples}
 

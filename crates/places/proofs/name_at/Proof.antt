@@ -2,7 +2,7 @@
 use mathlib.Core.Path.{_≡_, ap}
 use Prim.Native.Nat.{ℕ}
 use native.Mathlib.Omega.{arith}
-use Rattle.machine.specs.Places.{placeNumber}
+use Rattle.grid.specs.Triangle.{placeNumber}
 use Rattle.machine.specs.Calls.{nameAt}
 use Rattle.machine.specs.declared.Settings.{Settings}
 use Rattle.machine.specs.declared.Name.{Name}

@@ -2,7 +2,7 @@
 use mathlib.Core.Path.{sym}
 use native.Mathlib.Omega.{arith}
 use Rattle.machine.proofs.Limits.{limits}
-use Rattle.machine.proofs.Triangle.{names-half}
+use Rattle.machine.proofs.Numbering.{names-half}
 use Rattle.machine.proofs.Tests.{tests}
 use Rattle.places.proofs.Counts.{blocks-most}
 use Rattle.places.proofs.names.Statement.{statement}

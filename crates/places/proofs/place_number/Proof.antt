@@ -1,9 +1,9 @@
 -- The number of a place is the definition's: the difference does not fall below 0 (`half-below`).
 use Prim.Native.Nat.{_-_}
 use native.Mathlib.Omega.{arith}
-use Rattle.machine.specs.Places.{placeNumber}
+use Rattle.grid.specs.Triangle.{placeNumber}
 use Rattle.machine.proofs.Limits.{limits}
-use Rattle.machine.proofs.Triangle.{half-below}
+use Rattle.grid.proofs.Triangle.{half-below}
 use Rattle.machine.proofs.Tests.{tests}
 use Rattle.places.proofs.Counts.{product-small, product-fits}
 use Rattle.places.proofs.place_number.Statement.{statement}

@@ -4,9 +4,10 @@ use mathlib.Core.Bool.{false}
 use Prim.Native.Nat.{ℕ, _-_, _≤_}
 use native.Mathlib.Nat.{le-antisymm}
 use borrow.Author.Tests.{lt-ltb, le-ltb}
-use Rattle.file.specs.File.{anyBelow, codeBad}
+use Rattle.counting.specs.Counting.{anyBelow}
+use Rattle.file.specs.File.{codeBad}
 use Rattle.machine.proofs.Tests.{tests}
-use Rattle.file.proofs.Search.{any-found, none-more}
+use Rattle.counting.proofs.Some.{any-found, none-more}
 use Rattle.schedule.proofs.bad_code.Statement.{statement}
 use Rattle.schedule.proofs.bad_code.Tie as tie
 

@@ -1,6 +1,7 @@
 use mathlib.Core.Path.{_≡_, sym, ap, _∙_}
 use native.Mathlib.Omega.{arith}
-use Rattle.file.specs.File.{countOf, codeBad, anyBelow}
+use Rattle.counting.specs.Counting.{anyBelow}
+use Rattle.file.specs.File.{countOf, codeBad}
 use Rattle.machine.proofs.Tests.{tests}
 use Rattle.file.proofs.Headers.{Header, passed, opening-refused, opening-passed}
 use Rattle.schedule.proofs.open.Statement.{statement}

@@ -10,7 +10,7 @@ use Rattle.file.specs.File.{codeIn, numberBad, eventsBytes}
 use Rattle.machine.proofs.Tests.{tests}
 use Rattle.text.specs.Put.{put}
 use Rattle.text.proofs.Putting.{put-nothing}
-use Rattle.file.proofs.Search.{none-below}
+use Rattle.counting.proofs.Some.{none-below}
 use Rattle.schedule.proofs.Bytes.{length-behind, put-more}
 use Rattle.schedule.proofs.put_events.Statement.{statement}
 use Rattle.schedule.proofs.put_events.Tie as tie

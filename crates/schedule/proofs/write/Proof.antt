@@ -6,7 +6,8 @@ use lib.Dec.{ltb}
 use lib.ListN.{length}
 use borrow.Author.Tests.{lt-ltb, le-ltb}
 use Rattle.machine.specs.Refusals.{outsideLimits}
-use Rattle.file.specs.File.{mostEvents, fileLength, anyBelow, numberBad, writtenOf}
+use Rattle.counting.specs.Counting.{anyBelow}
+use Rattle.file.specs.File.{mostEvents, fileLength, numberBad, writtenOf}
 use Rattle.machine.proofs.Tests.{tests}
 use Rattle.schedule.proofs.Bytes.{put-file}
 use Rattle.schedule.proofs.write.Statement.{statement}

@@ -5,7 +5,7 @@ use mathlib.Core.Bool.{Bool, true, false, not, _&&_, _||_}
 use Prim.Native.Nat.{ℕ, _≤_, _<_}
 use lib.Dec.{T, eqb, leb, ltb, T-not, not-T, leb→le, le→leb, ltb→lt, lt→ltb, eqb→eq}
 use borrow.Author.Tests.{eq-eqb}
-use Rattle.machine.proofs.Bools.{and-in, and-l, and-r, is-true, is-false}
+use Rattle.counting.proofs.Bools.{and-in, and-l, and-r, is-true, is-false}
 
 pub record Tested (b : Bool) (A : Type 0) : Type 0 where
   pub says : T b → A

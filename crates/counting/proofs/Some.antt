@@ -6,7 +6,7 @@ use Prim.Native.Nat.{ℕ, zero, suc, _+_, _<_}
 use native.Mathlib.Nat.{eq-or-lt-of-le, le-of-suc-le-suc, not-suc-le-zero}
 use native.Mathlib.Numerals.{add-one}
 use native.Mathlib.Omega.{arith}
-use Rattle.file.specs.File.{anyBelow}
+use Rattle.counting.specs.Counting.{anyBelow}
 
 or-true : (a b : Bool) → b ≡ true → a || b ≡ true
 or-true true b e = refl
