@@ -5,3 +5,4 @@ pub mod Tested
 pub mod Counting
 pub mod Searching
 pub mod Some
+pub mod Counted

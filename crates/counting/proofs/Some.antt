@@ -1,12 +1,14 @@
 -- Whether some number below n passes a test, found by looking from 0 on.
 use mathlib.Core.Path.{_≡_, refl, sym, _∙_, ap}
 use mathlib.Core.Bool.{Bool, true, false, _||_}
-use mathlib.Core.Logic.{⊎-elim}
+use mathlib.Core.Logic.{_⊎_, inl, inr, ⊎-elim}
 use Prim.Native.Nat.{ℕ, zero, suc, _+_, _<_}
 use native.Mathlib.Nat.{eq-or-lt-of-le, le-of-suc-le-suc, not-suc-le-zero}
 use native.Mathlib.Numerals.{add-one}
+use native.Mathlib.Decide.{ℕ-discrete}
 use native.Mathlib.Omega.{arith}
 use Rattle.counting.specs.Counting.{anyBelow}
+use Rattle.counting.proofs.Tested.{Tested, either, meaning, never}
 
 or-true : (a b : Bool) → b ≡ true → a || b ≡ true
 or-true true b e = refl
@@ -37,3 +39,20 @@ none-below test (suc n) none i l = go (λ e below. none-below test n e i below) 
 pub each-none : (test : ℕ → Bool) (n : ℕ) → ((i : ℕ) → i < n → test i ≡ false) → anyBelow test n ≡ false
 each-none test zero each = refl
 each-none test (suc n) each = rw (each-none test n (λ i l. each i (omega arith)), each n (omega arith))
+
+-- some number below n passes
+pub some-below : {Holds : ℕ → Type 0} (test : ℕ → Bool) → ((i : ℕ) → Tested (test i) (Holds i)) → (n : ℕ)
+    → Tested (anyBelow test n) ((i : ℕ) × (i < n) × Holds i)
+some-below test each zero = never (λ some. not-suc-le-zero (some .1))
+some-below {Holds = Holds} test each (suc n) = meaning (either (some-below test each n) (each n)) (there, back)
+  where
+    there : ((i : ℕ) × (i < n) × Holds i) ⊎ Holds n → (i : ℕ) × (i < suc n) × Holds i
+    there (inl (i, l, here)) = (i, omega arith, here)
+    there (inr here) = (n, omega arith, here)
+
+    back : (i : ℕ) × (i < suc n) × Holds i → ((i : ℕ) × (i < n) × Holds i) ⊎ Holds n
+    back (i, l, here) = go (ℕ-discrete i n)
+      where
+        go : Dec (i ≡ n) → ((i : ℕ) × (i < n) × Holds i) ⊎ Holds n
+        go (yes e) = inr (rw e at here)
+        go (no other) = inl (i, omega arith, here)

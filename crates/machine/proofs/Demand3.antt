@@ -11,6 +11,7 @@ use Rattle.machine.proofs.Told.{told}
 use Rattle.machine.proofs.Told as told
 use Rattle.machine.proofs.Seekers.{seeker-accepted}
 use Rattle.machine.proofs.Served.{seeking-used, holding-used, served-alone}
+use Rattle.machine.proofs.Worst.{worst}
 use Rattle.machine.proofs.Exact.{worst-needs-bound, setup-takes-largest}
 
 -- two that hold one name hold one place, which only one task can
@@ -45,7 +46,7 @@ served-within s lent events ok p l = record {
 }
 
 pub bound-exact : BoundExact
-bound-exact s lent ok = worst-needs-bound s lent ok
+bound-exact s within = (worst s, worst-needs-bound s)
 
 pub setup-takes : SetupTakes
 setup-takes s fair = setup-takes-largest s fair

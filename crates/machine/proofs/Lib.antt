@@ -6,6 +6,7 @@ pub mod Limits
 pub mod Ranges
 pub mod Turning
 pub mod Numbering
+pub mod Numbers
 pub mod Determined
 -- what an accepted setup leaves
 pub mod Fresh
@@ -15,6 +16,7 @@ pub mod Deciding
 pub mod Lines
 pub mod BadValue
 pub mod Refusing
+pub mod Passed
 pub mod Passing
 pub mod Rules
 pub mod OneAccess
@@ -26,7 +28,7 @@ pub mod Lent
 -- demand 3: `Demand3` is where to begin
 pub mod Arriving
 pub mod Seen
-pub mod Sound
+pub mod Fitting
 pub mod Steps
 pub mod Outcomes
 pub mod Histories
@@ -35,6 +37,7 @@ pub mod Told
 pub mod Seekers
 pub mod Served
 pub mod Leads
+pub mod Worst
 pub mod WorstTurns
 pub mod Laps
 pub mod WorstRun

@@ -165,7 +165,7 @@ setup-exactly s m =
     (lentCases s (viewOf s (m .records) 0) (m .xs) (m .marks) []) (setupLines s m) (lent-are s 0 m [] [] (λ l. tt))
 
 pub refusal-exact : RefusalExact
-refusal-exact = record { calls = call-refused; setups = setup-exactly; acceptance = accepted-zero }
+refusal-exact = record { calls = call-refused; setups = setup-exactly; acceptance = accepted-zero; numbered = λ why. refl }
 
 -- ---- a refusal changes nothing
 

@@ -23,6 +23,7 @@ use Rattle.machine.specs.declared.Point.the-variants.{WriteX, Scan, Writ
 use Rattle.machine.specs.declared.State.{State}
 use Rattle.machine.specs.declared.State.the-variants.{Idle, Seeking, Holding}
 use Rattle.machine.specs.Ranges.{WithinLimits}
+use Rattle.machine.proofs.Cells.{earlier-block}
 use Rattle.machine.proofs.Numbering.{block-numbering}
 use Rattle.grid.proofs.Stands.{Way, right, down, Rules, Stage, fresh, mid, going, holding, Stand, idle, at, Grid}
 use Rattle.grid.proofs.Moves.{PutX, PutMark}
@@ -108,9 +109,6 @@ mark-on-block s marks r c place b h = rw (le-leb (r + c + 2) (s .k) b, lt-ltb pl
 
 -- ---- block after block
 
-index-below : (W count b place : ℕ) → b < count → place < W → b * W + place < count * W
-index-below W count b place h l = omega (arith, mul-le-mul-right W h)
-
 index-apart : (W a i b j : ℕ) → i < W → j < W → a * W + i ≡ b * W + j → (a ≡ b) × (i ≡ j)
 index-apart W a i b j h l e = go (decLt a b) (decLt b a)
   where
@@ -140,7 +138,7 @@ module _ (s : Settings) (l : WithinLimits s) where
   block-apart r c i j b h = block-numbering s (l .k-least) .apart r c i j (omega arith) (omega arith)
 
   pub mark-below : (r c place : ℕ) → r + c + 2 ≤ s .k → place < width s → markIndex s (blockNumber s r c) place < marksNeeded s
-  mark-below r c place b h = index-below (width s) (blocks s) (blockNumber s r c) place (block-below r c b) h
+  mark-below r c place b h = earlier-block (width s) (blockNumber s r c) place (blocks s) (block-below r c b) h
 
   pub x-put : (m new : Memory) (i j value : ℕ) → i + j + 2 ≤ s .k → blocks s ≤ length (m .xs) → new .xs ≡ set (m .xs) (blockNumber s i j) value
       → PutX (gridOf s m) (gridOf s new) i j value

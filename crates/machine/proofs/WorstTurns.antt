@@ -11,7 +11,8 @@ use lib.Dec.{eqb, eqb·suc-zero}
 use borrow.Author.Tests.{eq-eqb, ne-eqb}
 use Rattle.machine.specs.Settings.{width}
 use Rattle.machine.specs.Calls.{ask, turn}
-use Rattle.machine.specs.Worst.{turns, each, worstRow, worstRows, worst}
+use Rattle.machine.specs.History.{turns}
+use Rattle.machine.proofs.Worst.{each, worstRow, worstRows, worst}
 use Rattle.machine.specs.Demands.{bound}
 use Rattle.machine.specs.declared.Settings.{Settings}
 use Rattle.machine.specs.declared.Event.{Event}

@@ -1,7 +1,7 @@
 -- J0: after every call of a history the rows are long enough and every needed value is in range, so tests 1 to 3 pass for good.
 -- Every accepted call could break it, and none does: it writes one register and one record, each with a value in range.
 use mathlib.Core.Path.{_≡_, refl, subst}
-use mathlib.Core.Bool.{true≢false, Bool, true, false, _||_}
+use mathlib.Core.Bool.{true≢false, Bool, true, false}
 use mathlib.Core.List.{List, [], _∷_}
 use Prim.Native.Nat.{ℕ, zero, suc, _+_, _≤_, _<_}
 use native.Mathlib.Nat.{le-refl}
@@ -10,14 +10,14 @@ use native.Mathlib.Omega.{arith}
 use lib.Dec.{T, leb, ltb, leb→le, ltb→lt, le→leb, lt→ltb}
 use lib.ListN.{length, getD, set, length-set}
 use borrow.Author.Tests.{eq-eqb, le-ltb, ltb-false}
-use Rattle.machine.specs.Settings.{permitted, width}
+use Rattle.machine.specs.Settings.{width}
 use Rattle.machine.specs.Places.{blocks}
 use Rattle.machine.specs.Records.{idle, pointInRange, stateInRange, recordInRange}
-use Rattle.machine.specs.Memory.{Memory, marksNeeded, markIndex, recordOf, stateOf, withRecord, withX, withMark, xInRange, markInRange, badRecord, badX, badMark}
+use Rattle.machine.specs.Memory.{Memory, marksNeeded, markIndex, recordOf, stateOf, withRecord, withX, withMark, xInRange, markInRange}
 use Rattle.machine.specs.Turn.{access, pointAccess, value, store, arrive, move, leave, pointTurned}
 use Rattle.machine.specs.Refusals.{wrongMoment}
 use Rattle.machine.specs.Calls.{nextState, accept}
-use Rattle.machine.proofs.Fresh.{Passes}
+use Rattle.machine.proofs.Passed.{Fit}
 use Rattle.machine.specs.declared.Settings.{Settings}
 use Rattle.machine.specs.declared.Direction.{Direction}
 use Rattle.machine.specs.declared.Direction.the-variants.{Right, Down}
@@ -34,52 +34,7 @@ use Rattle.counting.proofs.Bools.{and-in, and-l, and-r}
 use Rattle.machine.proofs.Limits.{mode-most, width-least}
 use Rattle.machine.specs.Ranges.{WithinLimits}
 use Rattle.machine.proofs.Turning.{scan-marked, scan-done, scan-on, reads-own, reads-other}
-use Rattle.counting.proofs.Searching.{none-bad, none-bad-all}
 use Rattle.machine.proofs.Arriving.{arrive-edge, arrive-block, leave-at-once, leave-clearing, release-clears, release-nothing}
-
--- J0, value by value
-pub record Sound (s : Settings) (m : Memory) : Type 0 where
-  pub records-long : s .n ≤ length (m .records)
-  pub xs-long : blocks s ≤ length (m .xs)
-  pub marks-long : marksNeeded s ≤ length (m .marks)
-  pub records-good : (p : ℕ) → p < s .n → T (recordInRange s (recordOf m p))
-  pub xs-good : (b : ℕ) → b < blocks s → T (xInRange s (getD (m .xs) b 0))
-  pub marks-good : (i : ℕ) → i < marksNeeded s → T (markInRange (getD (m .marks) i 0))
-
--- ---- the same as the tests 1 to 3
-
-or-false : (a b : Bool) → a || b ≡ false → (a ≡ false) × (b ≡ false)
-or-false true b e = absurd (true≢false e)
-or-false false b e = (refl, e)
-
-pub passes-sound : (s : Settings) (m : Memory) → Passes s m → Sound s m
-passes-sound s m h =
-    let a = or-false (ltb (length (m .records)) (s .n)) (ltb (length (m .xs)) (blocks s) || ltb (length (m .marks)) (marksNeeded s)) (h .rows) in
-    let b = or-false (ltb (length (m .xs)) (blocks s)) (ltb (length (m .marks)) (marksNeeded s)) (a .1) in
-    record {
-      records-long = ltb-false (length (m .records)) (s .n) (a .0);
-      xs-long = ltb-false (length (m .xs)) (blocks s) (b .0);
-      marks-long = ltb-false (length (m .marks)) (marksNeeded s) (b .1);
-      records-good = none-bad-all (λ p. recordInRange s (getD (m .records) p idle)) (s .n) (h .records);
-      xs-good = none-bad-all (λ b. xInRange s (getD (m .xs) b 0)) (blocks s) (h .xs);
-      marks-good = none-bad-all (λ i. markInRange (getD (m .marks) i 0)) (marksNeeded s) (h .marks);
-    }
-
-none-below : (n first : ℕ) → first ≡ n → ltb first n ≡ false
-none-below n first e = rw e (le-ltb n n (le-refl n))
-
-pub sound-passes : (s : Settings) → T (permitted s) → (m : Memory) → Sound s m → Passes s m
-sound-passes s fair m h = record {
-  limits = fair;
-  rows = rw (
-    le-ltb (length (m .records)) (s .n) (h .records-long),
-    le-ltb (length (m .xs)) (blocks s) (h .xs-long),
-    le-ltb (length (m .marks)) (marksNeeded s) (h .marks-long),
-  );
-  records = none-below (s .n) (badRecord s (m .records)) (none-bad _ (s .n) (h .records-good));
-  xs = none-below (blocks s) (badX s (m .xs)) (none-bad _ (blocks s) (h .xs-good));
-  marks = none-below (marksNeeded s) (badMark s (m .marks)) (none-bad _ (marksNeeded s) (h .marks-good));
-}
 
 -- ---- what a call writes is in range
 
@@ -170,51 +125,51 @@ set-good good (x ∷ l) zero (suc j) v d t h = h
 set-good good (x ∷ l) (suc i) zero v d t h = h
 set-good good (x ∷ l) (suc i) (suc j) v d t h = set-good good l i j v d t h
 
-module _ (s : Settings) (m : Memory) (h : Sound s m) where
-  record-sound : (p : ℕ) (new : Record) → T (recordInRange s new) → Sound s (withRecord p new m)
-  record-sound p new t = record {
-    records-long = rw (length-set (m .records) p new) (h .records-long);
-    xs-long = h .xs-long;
-    marks-long = h .marks-long;
-    records-good = λ q l. set-good (recordInRange s) (m .records) p q new idle t (h .records-good q l);
-    xs-good = h .xs-good;
-    marks-good = h .marks-good;
+module _ (s : Settings) (m : Memory) (h : Fit s m) where
+  record-fits : (p : ℕ) (new : Record) → T (recordInRange s new) → Fit s (withRecord p new m)
+  record-fits p new t = record {
+    long = record { records = rw (length-set (m .records) p new) (h .long .records); xs = h .long .xs; marks = h .long .marks };
+    in-range = record {
+      records = λ q l. set-good (recordInRange s) (m .records) p q new idle t (h .in-range .records q l);
+      xs = h .in-range .xs;
+      marks = h .in-range .marks;
+    };
   }
 
-  x-sound : (b v : ℕ) → T (xInRange s v) → Sound s (withX b v m)
-  x-sound b v t = record {
-    records-long = h .records-long;
-    xs-long = rw (length-set (m .xs) b v) (h .xs-long);
-    marks-long = h .marks-long;
-    records-good = h .records-good;
-    xs-good = λ i l. set-good (xInRange s) (m .xs) b i v 0 t (h .xs-good i l);
-    marks-good = h .marks-good;
+  x-fits : (b v : ℕ) → T (xInRange s v) → Fit s (withX b v m)
+  x-fits b v t = record {
+    long = record { records = h .long .records; xs = rw (length-set (m .xs) b v) (h .long .xs); marks = h .long .marks };
+    in-range = record {
+      records = h .in-range .records;
+      xs = λ i l. set-good (xInRange s) (m .xs) b i v 0 t (h .in-range .xs i l);
+      marks = h .in-range .marks;
+    };
   }
 
-  mark-sound : (index v : ℕ) → T (markInRange v) → Sound s (withMark index v m)
-  mark-sound index v t = record {
-    records-long = h .records-long;
-    xs-long = h .xs-long;
-    marks-long = rw (length-set (m .marks) index v) (h .marks-long);
-    records-good = h .records-good;
-    xs-good = h .xs-good;
-    marks-good = λ i l. set-good markInRange (m .marks) index i v 0 t (h .marks-good i l);
+  mark-fits : (index v : ℕ) → T (markInRange v) → Fit s (withMark index v m)
+  mark-fits index v t = record {
+    long = record { records = h .long .records; xs = h .long .xs; marks = rw (length-set (m .marks) index v) (h .long .marks) };
+    in-range = record {
+      records = h .in-range .records;
+      xs = h .in-range .xs;
+      marks = λ i l. set-good markInRange (m .marks) index i v 0 t (h .in-range .marks i l);
+    };
   }
 
   -- a mark that is written is that mark and no other
   mark-stored : (b place v : ℕ) → withMark (markIndex s b place) v m ≡ store s (MarkWritten b place v) m
   mark-stored b place v = refl
 
-  store-sound : (access : Access) → Writes s access → Sound s (store s access m)
-  store-sound NoAccess w = h
-  store-sound (XRead b) w = h
-  store-sound (XWritten b v) w = x-sound b v w
-  store-sound (MarkRead b place) w = h
-  store-sound (MarkWritten b place v) w = subst (Sound s) (mark-stored b place v) (mark-sound (markIndex s b place) v w)
+  store-fits : (access : Access) → Writes s access → Fit s (store s access m)
+  store-fits NoAccess w = h
+  store-fits (XRead b) w = h
+  store-fits (XWritten b v) w = x-fits b v w
+  store-fits (MarkRead b place) w = h
+  store-fits (MarkWritten b place v) w = subst (Fit s) (mark-stored b place v) (mark-fits (markIndex s b place) v w)
 
-pub accept-sound : (s : Settings) → WithinLimits s → (kind : Kind) (p : ℕ) (m : Memory) → Sound s m → p < s .n → wrongMoment kind (stateOf m p) ≡ false
-    → Sound s (accept s kind p (stateOf m p) m .memory)
-accept-sound s fair kind p m h l e =
-    record-sound s (store s (access s kind p (stateOf m p)) m)
-    (store-sound s m h (access s kind p (stateOf m p)) (access-writes s fair kind p (stateOf m p) l))
-    p (record { state = nextState s kind p (stateOf m p) m }) (next-in-range s fair kind p (stateOf m p) m e (h .records-good p l))
+pub accept-fits : (s : Settings) → WithinLimits s → (kind : Kind) (p : ℕ) (m : Memory) → Fit s m → p < s .n → wrongMoment kind (stateOf m p) ≡ false
+    → Fit s (accept s kind p (stateOf m p) m .memory)
+accept-fits s fair kind p m h l e =
+    record-fits s (store s (access s kind p (stateOf m p)) m)
+    (store-fits s m h (access s kind p (stateOf m p)) (access-writes s fair kind p (stateOf m p) l))
+    p (record { state = nextState s kind p (stateOf m p) m }) (next-in-range s fair kind p (stateOf m p) m e (h .in-range .records p l))

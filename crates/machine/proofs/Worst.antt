@@ -5,13 +5,9 @@ use mathlib.Core.List.{List, [], _∷_, _++_}
 use Prim.Native.Nat.{ℕ, zero, suc, _+_, _-_}
 use Rattle.machine.specs.Settings.{width}
 use Rattle.machine.specs.Calls.{ask, turn}
+use Rattle.machine.specs.History.{turns}
 use Rattle.machine.specs.declared.Settings.{Settings}
 use Rattle.machine.specs.declared.Event.{Event}
-
--- so many turns of task p
-abbrev pub turns : ℕ → ℕ → List Event
-turns zero p = []
-turns (suc count) p = turn p ∷ turns count p
 
 -- what each task does, from task n - 1 down to task 0
 abbrev pub each : (ℕ → List Event) → ℕ → List Event
