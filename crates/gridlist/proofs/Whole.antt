@@ -1,18 +1,12 @@
 -- What `listing::list` leaves in a room that is long enough for any file: the whole listing, and never a refusal.
-use mathlib.Core.Path.{_≡_, refl, ap, _∙_}
-use mathlib.Core.List.{List, _++_}
+use mathlib.Core.{Path.{_≡_, ap}, List.{List, _++_}}
 use Prim.Native.Nat.{ℕ, _≤_}
-use native.Mathlib.Nat.{le-trans}
-use native.Mathlib.Omega.{arith}
-use lib.ListN.{length, take, drop}
-use lib.Seq.{take-append-seam}
+use native.Mathlib.{Nat.le-trans, Omega.arith}
+use lib.{ListN.{length, take, drop}, Seq.take-append-seam}
 use borrow.Author.Tests.{le-ltb}
 use Rattle.file.specs.File.{Written, writtenOf}
-use Rattle.printed.specs.Listing.{listing}
-use Rattle.machine.specs.declared.Refusal.{Refusal}
-use Rattle.machine.specs.declared.Writing.{Writing}
-use Rattle.machine.specs.declared.Writing.the-variants.{Wrote, Refused}
-use Rattle.printed.specs.Listed.{listed}
+use Rattle.printed.specs.{Listing.listing, Listed.listed}
+use Rattle.machine.specs.declared.{Refusal.Refusal, Writing.{Writing, the-variants.{Wrote, Refused}}}
 use Rattle.listing.proofs.Contract.{room-always}
 
 module _ (file room after : List ℕ) (long : 507949 ≤ length room) where

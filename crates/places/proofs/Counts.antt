@@ -1,16 +1,11 @@
 -- How large the counts and the numbers of the grid are, and that a mark stands among the marks that are needed.
 use mathlib.Core.Path.{_≡_}
 use Prim.Native.Nat.{ℕ, suc, _+_, _*_, _-_, _≤_, _<_}
-use native.Mathlib.Omega.{arith}
-use native.Mathlib.Nat.{mul-le-mul, mul-le-mul-right, suc-mul}
-use mir.Syntax.{w16, w64}
-use mir.Val.{Fits}
-use Rattle.machine.specs.Settings.{width}
-use Rattle.machine.specs.Places.{half, placeNumber, blocks}
-use Rattle.machine.specs.Memory.{marksNeeded, markIndex}
-use Rattle.machine.specs.declared.Settings.{Settings}
+use native.Mathlib.{Omega.arith, Nat.{mul-le-mul, mul-le-mul-right, suc-mul}}
+use mir.{Syntax.{w16, w64}, Val.Fits}
+use Rattle.machine.specs.{Settings.width, Places.{half, placeNumber, blocks}, Memory.{marksNeeded, markIndex}}
+use Rattle.machine.specs.{declared.Settings.Settings, Ranges.WithinLimits}
 use Rattle.machine.proofs.Limits.{width-most}
-use Rattle.machine.specs.Ranges.{WithinLimits}
 
 -- products of the grid's numbers fit, also with one more such number added
 module _ (a b : ℕ) (small-a : a ≤ 256) (small-b : b ≤ 256) where

@@ -1,24 +1,15 @@
 -- Laws of one state: what it is not, by its tag; when it is in range; and what its release touches.
-use mathlib.Core.Path.{_≡_, refl}
-use mathlib.Core.Bool.{false}
-use mathlib.Core.Logic.{_⊎_, ⊎-elim}
+use mathlib.Core.{Path.{_≡_, refl}, Bool.false, Logic.{_⊎_, ⊎-elim}}
 use Prim.Native.Nat.{ℕ, _+_, _≤_, _<_}
-use native.Mathlib.Nat.{le-trans}
-use native.Mathlib.Omega.{arith}
+use native.Mathlib.{Nat.le-trans, Omega.arith}
 use borrow.Author.Tests.{le-leb, lt-leb}
 use lib.Dec.{T, leb→le}
 use denote.Enum.Declared.{tagOf}
-use Rattle.machine.specs.Settings.{permitted, own}
-use Rattle.machine.specs.Places.{blockNumber}
-use Rattle.machine.specs.Records.{isIdle, isSeeking, isHolding, pointInRange, stateInRange}
-use Rattle.machine.specs.Turn.{releaseAccess}
-use Rattle.machine.specs.declared.Settings.{Settings}
-use Rattle.machine.specs.declared.Point.{Point}
-use Rattle.machine.specs.declared.State.{State}
-use Rattle.machine.specs.declared.State.the-variants.{Idle, Seeking, Holding}
+use Rattle.machine.specs.{Settings.{permitted, own}, Places.blockNumber}
+use Rattle.machine.specs.{Records.{isIdle, isSeeking, isHolding, pointInRange, stateInRange}, Turn.releaseAccess}
+use Rattle.machine.specs.declared.{Settings.Settings, Point.Point, State.{State, the-variants.{Idle, Seeking, Holding}}}
 use Rattle.machine.specs.declared.Access.the-variants.{NoAccess, MarkWritten}
-use Rattle.machine.proofs.State.{the-type}
-use Rattle.machine.proofs.Limits.{limits}
+use Rattle.machine.proofs.{State.the-type, Limits.limits}
 
 -- ---- what a state is not: where its tag is one of the other two
 

@@ -1,17 +1,12 @@
 -- The bytes of a schedule, one event after the other, and put into a room.
-use mathlib.Core.Path.{_≡_, refl, sym, ap, _∙_}
-use mathlib.Core.List.{List, [], _∷_, _++_, append-assoc}
+use mathlib.Core.{Path.{_≡_, refl, sym, ap, _∙_}, List.{List, [], _∷_, _++_, append-assoc}}
 use Prim.Native.Nat.{ℕ, _+_, _*_, _≤_, _<_}
-use native.Mathlib.Nat.{le-of-lt, zero-add}
-use native.Mathlib.Numerals.{add-one}
-use native.Mathlib.Omega.{arith}
-use lib.ListN.{length, take, drop, set, getD, length-set}
-use lib.Seq.{take-suc, length-take-le, sets, length-sets, sets-eq}
+use native.Mathlib.{Nat.{le-of-lt, zero-add}, Numerals.add-one, Omega.arith}
+use lib.{ListN.{length, take, drop, set, getD, length-set}, Seq.{take-suc, length-take-le, sets, length-sets, sets-eq}}
 use Rattle.file.specs.File.{wordBytes, eventBytes, eventsBytes, headerBytes, fileBytes, fileLength}
-use Rattle.machine.specs.declared.Settings.{Settings}
 use Rattle.file.proofs.Lengths.{length-events, length-file}
-use Rattle.text.specs.Put.{put}
-use Rattle.text.proofs.Putting.{length-put, put-byte, put-append}
+use Rattle.machine.specs.declared.Settings.{Settings}
+use Rattle.text.{specs.Put.put, proofs.Putting.{length-put, put-byte, put-append}}
 
 -- the events of two lists
 pub events-append : (a b : List ℕ) → eventsBytes (a ++ b) ≡ eventsBytes a ++ eventsBytes b

@@ -1,13 +1,9 @@
 -- The contracts that speak of an answer and of what is lent afterwards determine both: two outcomes that they admit are equal.
-use mathlib.Core.Path.{_≡_, sym, ap, _∙_}
-use mathlib.Core.List.{List}
+use mathlib.Core.{Path.{_≡_, sym, ap, _∙_}, List.List}
 use Prim.Native.Nat.{ℕ}
 use Rattle.file.specs.File.{Written, writing, writtenOf}
-use Rattle.machine.specs.declared.Settings.{Settings}
-use Rattle.machine.specs.declared.Reading.{Reading}
-use Rattle.machine.specs.declared.Writing.{Writing}
-use Rattle.schedule.specs.Asked.{Asked}
-use Rattle.schedule.specs.declared.Reader.{Reader}
+use Rattle.machine.specs.declared.{Settings.Settings, Reading.Reading, Writing.Writing}
+use Rattle.schedule.specs.{Asked.Asked, declared.Reader.Reader}
 
 -- `Reader::next`: the answer and the reader as it is left
 pub asked-determined : (before : Reader) (answer answer′ : Reading) (after after′ : Reader) → Asked before answer after → Asked before answer′ after′

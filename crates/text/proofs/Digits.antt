@@ -1,17 +1,10 @@
 -- Laws of a number in decimal: one digit, one digit more, how many digits there are, and what writing them puts.
-use mathlib.Core.Path.{_≡_, refl}
-use mathlib.Core.Bool.{Bool, true, false}
-use mathlib.Core.List.{List, [], _∷_, _++_}
+use mathlib.Core.{Path.{_≡_, refl}, Bool.{Bool, true, false}, List.{List, [], _∷_, _++_}}
 use Prim.Native.Nat.{ℕ, zero, suc, _+_, _*_, _/_, _%_, _^_, _≤_, _<_}
-use native.Mathlib.Nat.{not-suc-le-zero, div-lt-iff-lt-mul, pow-suc}
-use native.Mathlib.Numerals.{add-one}
-use native.Mathlib.Omega.{arith}
-use native.Mathlib.Decide.{decLe}
-use lib.Dec.{ltb, lit<}
-use lib.ListN.{length, set, length-append}
+use native.Mathlib.{Nat.{not-suc-le-zero, div-lt-iff-lt-mul, pow-suc}, Numerals.add-one, Omega.arith, Decide.decLe}
+use lib.{Dec.{ltb, lit<}, ListN.{length, set, length-append}}
 use borrow.Author.Tests.{lt-ltb, le-ltb, ltb-true, ltb-false}
-use Rattle.text.specs.Decimal.{digits, decimal}
-use Rattle.text.specs.Put.{Puts}
+use Rattle.text.specs.{Decimal.{digits, decimal}, Put.Puts}
 use Rattle.text.proofs.Putting.{put-byte, put-byte-after}
 
 -- any bound above the number gives the same digits

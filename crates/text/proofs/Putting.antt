@@ -1,10 +1,7 @@
 -- Laws of `put`: its length, one byte, and one text after another.
-use mathlib.Core.Path.{_≡_, sym, ap, _∙_}
-use mathlib.Core.List.{List, [], _∷_, _++_, append-assoc}
+use mathlib.Core.{Path.{_≡_, sym, ap, _∙_}, List.{List, [], _∷_, _++_, append-assoc}}
 use Prim.Native.Nat.{ℕ, suc, _+_, _≤_, _<_}
-use native.Mathlib.Nat.{add-assoc}
-use native.Mathlib.Numerals.{add-one}
-use native.Mathlib.Omega.{arith}
+use native.Mathlib.{Nat.add-assoc, Numerals.add-one, Omega.arith}
 use lib.ListN.{length, take, drop, set, getD, length-append, length-drop, take-append-drop}
 use lib.Seq.{length-take-le, take-at, drop-append-add, drop-drop, set-split, take-suc}
 use Rattle.text.specs.Put.{put, Puts}

@@ -2,28 +2,11 @@
 use mathlib.Core.Path.{sym, ap, _∙_}
 use lib.Seq.{length-take-le}
 use denote.Ref.{now}
-use Rattle.printed.specs.Listing.{listing}
+use Rattle.printed.{specs.Listing.listing, proofs.Longer.part-listed}
 use Rattle.listing.proofs.Contract.{text-within}
-use Rattle.printed.proofs.Longer.{part-listed}
-use Rattle.gridlist.proofs.Whole.{never-refused, text-whole}
+use Rattle.gridlist.proofs.{Whole.{never-refused, text-whole}, listing_of.Statement.statement}
 use borrow.Author.Needs.{needs}
-use Rattle.gridlist.proofs.listing_of.Statement.{statement}
 use Rattle.gridlist.proofs.listing_of.Tie as tie
-
-first-requires : tie.Need-first-requires
-first-requires c κs = search needs
-
-list-requires : tie.Need-list-requires
-list-requires c κs = search needs
-
-enum-known-listed : tie.Need-enum-known-listed
-enum-known-listed c = search needs
-
-enum-told : tie.Need-enum-told
-enum-told c = search needs
-
-slice-aggregate-result : tie.Need-slice-aggregate-result
-slice-aggregate-result c = search needs
 
 returns : tie.Need-returns
 returns c =
@@ -54,13 +37,5 @@ returns-2 c =
 
 pub listing-of-spec : {M : Type 1} → statement M
 listing-of-spec =
-    tie.close
-    (tie.spec
-    first-requires
-    list-requires
-    enum-known-listed
-    enum-told
-    slice-aggregate-result
-    returns
-    slice-aggregate-result-2
-    returns-2)
+    tie.close (tie.spec (λ c κs. search needs) (λ c κs. search needs) (λ c. search needs) (λ c. search needs)
+    (λ c. search needs) returns slice-aggregate-result-2 returns-2)

@@ -1,17 +1,10 @@
 -- The index of a mark is the definition's, by the width of a block.
 use mathlib.Core.Path.{refl}
 use native.Mathlib.Omega.{arith}
-use Rattle.machine.proofs.Limits.{limits, width-most}
-use Rattle.machine.proofs.Tests.{tests}
+use Rattle.machine.proofs.{Limits.{limits, width-most}, Tests.tests}
 use Rattle.places.proofs.Counts.{product-fits, product-and-sum-fit, blocks-most}
 use Rattle.places.proofs.mark_index.Statement.{statement}
 use Rattle.places.proofs.mark_index.Tie as tie
-
-width-requires : tie.Need-width-requires
-width-requires c κs = search tests
-
-cast-width : tie.Need-cast-width
-cast-width c = search tests
 
 mul-result : tie.Need-mul-result
 mul-result c =
@@ -31,4 +24,4 @@ returns : tie.Need-returns
 returns c = rw (c .width .ensures) refl
 
 pub mark-index-spec : {M : Type 1} → statement M
-mark-index-spec = tie.close (tie.spec width-requires cast-width mul-result add-result returns)
+mark-index-spec = tie.close (tie.spec (λ c κs. search tests) (λ c. search tests) mul-result add-result returns)

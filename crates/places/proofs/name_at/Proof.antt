@@ -2,13 +2,9 @@
 use mathlib.Core.Path.{_≡_, ap}
 use Prim.Native.Nat.{ℕ}
 use native.Mathlib.Omega.{arith}
-use Rattle.machine.specs.Places.{placeNumber}
-use Rattle.machine.specs.Calls.{nameAt}
-use Rattle.machine.specs.declared.Settings.{Settings}
-use Rattle.machine.specs.declared.Name.{Name}
+use Rattle.machine.specs.{Places.placeNumber, Calls.nameAt, declared.{Settings.Settings, Name.Name}}
 use Rattle.machine.proofs.Limits.{limits}
-use Rattle.places.proofs.Counts.{place-number-fits}
-use Rattle.places.proofs.name_at.Statement.{statement}
+use Rattle.places.proofs.{Counts.place-number-fits, name_at.Statement.statement}
 use Rattle.places.proofs.name_at.Tie as tie
 
 -- the names are the numbers of the triangle of side k

@@ -1,19 +1,9 @@
 -- The number of a place is the definition's: the difference does not fall below 0 (`half-below`).
 use Prim.Native.Nat.{_-_}
 use native.Mathlib.Omega.{arith}
-use Rattle.machine.specs.Places.{placeNumber}
-use Rattle.machine.proofs.Limits.{limits}
-use Rattle.machine.proofs.Triangle.{half-below}
-use Rattle.machine.proofs.Tests.{tests}
-use Rattle.places.proofs.Counts.{product-small, product-fits}
-use Rattle.places.proofs.place_number.Statement.{statement}
+use Rattle.machine.{specs.Places.placeNumber, proofs.{Limits.limits, Triangle.half-below, Tests.tests}}
+use Rattle.places.proofs.{Counts.{product-small, product-fits}, place_number.Statement.statement}
 use Rattle.places.proofs.place_number.Tie as tie
-
-sub-side : tie.Need-sub-side
-sub-side c = search tests
-
-cast-side : tie.Need-cast-side
-cast-side c = search tests
 
 mul-result : tie.Need-mul-result
 mul-result c =
@@ -39,4 +29,5 @@ returns c = rw (c .half .ensures)
 
 pub place-number-spec : {M : Type 1} → statement M
 place-number-spec =
-    tie.close (tie.spec sub-side cast-side mul-result half-requires sub-result add-result returns)
+    tie.close (tie.spec (λ c. search tests) (λ c. search tests) mul-result half-requires sub-result add-result
+    returns)

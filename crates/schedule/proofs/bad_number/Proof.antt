@@ -1,13 +1,11 @@
 -- No number before i has a code above 2.
-use mathlib.Core.Path.{_≡_, sym, subst}
-use mathlib.Core.Bool.{false}
+use mathlib.Core.{Path.{_≡_, sym, subst}, Bool.false}
 use Prim.Native.Nat.{ℕ, _-_, _≤_}
 use native.Mathlib.Nat.{le-antisymm}
 use lib.ListN.{length}
 use borrow.Author.Tests.{lt-ltb, le-ltb}
-use Rattle.file.specs.File.{anyBelow, numberBad}
+use Rattle.file.{specs.File.{anyBelow, numberBad}, proofs.Search.{any-found, none-more}}
 use Rattle.machine.proofs.Tests.{tests}
-use Rattle.file.proofs.Search.{any-found, none-more}
 use Rattle.schedule.proofs.bad_number.Statement.{statement}
 use Rattle.schedule.proofs.bad_number.Tie as tie
 
@@ -17,24 +15,9 @@ Inv-loop events i₀ i = (i ≤ length events) × (anyBelow (numberBad events) i
 abbrev μ-loop : tie.MeasureT-loop
 μ-loop events i₀ i = length events - i
 
-loop-holds : tie.Need-loop-holds Inv-loop μ-loop
-loop-holds c = search tests
-
-mul-if1 : tie.Need-mul-if1 Inv-loop μ-loop
-mul-if1 c = search tests
-
-shared-slice-read-if1 : tie.Need-shared-slice-read-if1 Inv-loop μ-loop
-shared-slice-read-if1 c = search tests
-
 returns : tie.Need-returns Inv-loop μ-loop
 returns c =
     any-found (numberBad (c .before .before .before .before .args .events .now)) _ _ (c .before .before .loop-test .taken) (lt-ltb _ _ (c .if1 .taken))
-
-add-i : tie.Need-add-i Inv-loop μ-loop
-add-i c = search tests
-
-loop-less : tie.Need-loop-less Inv-loop μ-loop
-loop-less c = search tests
 
 loop-again : tie.Need-loop-again Inv-loop μ-loop
 loop-again c = (
@@ -47,15 +30,5 @@ returns-2 c = sym (subst (λ (m : ℕ). anyBelow (numberBad (c .before .before .
 
 pub bad-number-spec : {M : Type 1} → statement M
 bad-number-spec =
-    tie.close
-    (tie.spec
-    Inv-loop
-    μ-loop
-    loop-holds
-    mul-if1
-    shared-slice-read-if1
-    returns
-    add-i
-    loop-less
-    loop-again
-    returns-2)
+    tie.close (tie.spec Inv-loop μ-loop (λ c. search tests) (λ c. search tests) (λ c. search tests) returns
+    (λ c. search tests) (λ c. search tests) loop-again returns-2)

@@ -1,13 +1,11 @@
-use mathlib.Core.Path.{_≡_, ap, subst, _∙_}
-use mathlib.Core.Bool.{true, false}
+use mathlib.Core.{Path.{_≡_, ap, subst, _∙_}, Bool.{true, false}}
 use Prim.Native.Nat.{ℕ, _≤_, _<_}
 use native.Mathlib.Omega.{arith}
 use lib.Dec.{leb}
 use borrow.Author.Tests.{le-leb, lt-leb, lt-ltb, le-ltb}
-use Rattle.file.specs.File.{countOf, codeBad}
+use Rattle.file.{specs.File.{countOf, codeBad}, proofs.Headers.{Header, passed, reading-refused, reading-passed}}
 use Rattle.machine.proofs.Tests.{tests}
 use Rattle.schedule.specs.Next.{nextOf}
-use Rattle.file.proofs.Headers.{Header, passed, reading-refused, reading-passed}
 use Rattle.schedule.proofs.event_at.Statement.{statement}
 use Rattle.schedule.proofs.event_at.Tie as tie
 
@@ -24,62 +22,20 @@ within c = lt-leb _ _ (subst (λ (count : ℕ). c .before .before .before .befor
 coded : (c : tie.Else2) → codeBad (c .before .before .before .before .before .before .before .before .args .file .now) (c .before .before .before .before .before .before .before .before .args .at) ≡ false
 coded c = le-ltb _ _ (c .if2 .left)
 
-header-requires : tie.Need-header-requires
-header-requires c κs = search tests
-
-enum-known-verdict : tie.Need-enum-known-verdict
-enum-known-verdict c = search tests
-
-refused-requires : tie.Need-refused-requires
-refused-requires c κs = search tests
-
-enum-told : tie.Need-enum-told
-enum-told c = search tests
-
 word-requires : tie.Need-word-requires
 word-requires c κs = omega (arith, good c .long)
-
-cast-count : tie.Need-cast-count
-cast-count c = search tests
-
-refused-requires-2 : tie.Need-refused-requires-2
-refused-requires-2 c κs = search tests
 
 returns : tie.Need-returns
 returns c = rw (reading-passed _ _ (c .before .before .before .before .before .header .ensures) _ (c .before .before .before .enum-told .given .1), past (c .before)) (c .refused2 .ensures)
 
-mul-code : tie.Need-mul-code
-mul-code c = search tests
-
-add-code : tie.Need-add-code
-add-code c = search tests
-
 shared-slice-read-code : tie.Need-shared-slice-read-code
 shared-slice-read-code c = omega (arith, good (c .before .before .before) .whole, c .before .before .word .ensures)
-
-refused-requires-3 : tie.Need-refused-requires-3
-refused-requires-3 c κs = search tests
 
 returns-2 : tie.Need-returns-2
 returns-2 c = rw (reading-passed _ _ (c .before .before .before .before .before .before .before .header .ensures) _ (c .before .before .before .before .before .enum-told .given .1), within (c .before .before .before), lt-ltb _ _ (c .before .if2 .taken)) (c .refused3 .ensures)
 
-mul-word : tie.Need-mul-word
-mul-word c = search tests
-
-add-word : tie.Need-add-word
-add-word c = search tests
-
-add-word-2 : tie.Need-add-word-2
-add-word-2 c = search tests
-
 word-requires-2 : tie.Need-word-requires-2
 word-requires-2 c κs = omega (arith, good (c .before .before .before .before) .whole, c .before .before .before .word .ensures)
-
-kind-requires : tie.Need-kind-requires
-kind-requires c κs = search tests
-
-add-t12 : tie.Need-add-t12
-add-t12 c = search tests
 
 returns-3 : tie.Need-returns-3
 returns-3 c = c .refused .ensures ∙ ap nextOf (reading-refused (c .before .before .before .before .before .before .args .file .now) _ (c .before .before .before .before .header .ensures) _ _ (c .before .before .verdict .given .1))
@@ -89,26 +45,7 @@ returns-4 c = rw (reading-passed _ _ (c .before .before .before .before .before 
 
 pub event-at-spec : {M : Type 1} → statement M
 event-at-spec =
-    tie.close
-    (tie.spec
-    header-requires
-    enum-known-verdict
-    refused-requires
-    enum-told
-    word-requires
-    cast-count
-    refused-requires-2
-    returns
-    mul-code
-    add-code
-    shared-slice-read-code
-    refused-requires-3
-    returns-2
-    mul-word
-    add-word
-    add-word-2
-    word-requires-2
-    kind-requires
-    add-t12
-    returns-3
-    returns-4)
+    tie.close (tie.spec (λ c κs. search tests) (λ c. search tests) (λ c κs. search tests) (λ c. search tests)
+    word-requires (λ c. search tests) (λ c κs. search tests) returns (λ c. search tests) (λ c. search tests)
+    shared-slice-read-code (λ c κs. search tests) returns-2 (λ c. search tests) (λ c. search tests)
+    (λ c. search tests) word-requires-2 (λ c κs. search tests) (λ c. search tests) returns-3 returns-4)

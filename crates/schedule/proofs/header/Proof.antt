@@ -1,13 +1,9 @@
 -- What each test shows once it is passed, and from these the verdict at each return.
-use mathlib.Core.Path.{_≡_, sym, _∙_, ap}
-use mathlib.Core.Bool.{false, not}
-use lib.Dec.{eqb, ltb}
-use lib.ListN.{length}
+use mathlib.Core.{Path.{_≡_, sym, _∙_, ap}, Bool.{false, not}}
+use lib.{Dec.{eqb, ltb}, ListN.length}
 use borrow.Author.Tests.{lt-ltb, le-ltb, eq-eqb, ne-eqb}
-use Rattle.machine.specs.Settings.{permitted}
-use Rattle.machine.specs.Refusals.{outsideLimits}
+use Rattle.machine.{specs.{Settings.permitted, Refusals.outsideLimits}, proofs.Tests.tests}
 use Rattle.file.specs.File.{lettersRight, versionOf, settingsOf, countOf, mostEvents, fileLength}
-use Rattle.machine.proofs.Tests.{tests}
 use Rattle.schedule.proofs.header.Statement.{statement}
 use Rattle.schedule.proofs.header.Tie as tie
 
@@ -33,43 +29,16 @@ few c = ap (ltb mostEvents) (sym (c .before .word2 .ensures)) ∙ le-ltb _ _ (c 
 counts : (c : tie.Else5) → fileLength (c .before .word2 .result) ≡ fileLength (countOf (c .before .before .before .before .before .before .before .before .before .before .before .args .file .now))
 counts c = ap fileLength (c .before .word2 .ensures)
 
-returns : tie.Need-returns
-returns c = search tests
-
-letters-requires : tie.Need-letters-requires
-letters-requires c κs = search tests
-
 returns-2 : tie.Need-returns-2
 returns-2 c = rw (long (c .before .before), ap not (sym (c .before .letters .ensures)) ∙ c .if2 .taken)
 
-word-requires : tie.Need-word-requires
-word-requires c κs = search tests
-
 returns-3 : tie.Need-returns-3
 returns-3 c = rw (long (c .before .before .before .before), lettered (c .before .before), ne-eqb _ 1 (λ e. c .if3 .taken (c .before .word .ensures ∙ e)))
-
-settings-requires : tie.Need-settings-requires
-settings-requires c κs = search tests
-
-permitted-requires : tie.Need-permitted-requires
-permitted-requires c κs = search tests
 
 returns-4 : tie.Need-returns-4
 returns-4 c =
     rw
     (long (c .before .before .before .before .before .before .before), lettered (c .before .before .before .before .before), versioned (c .before .before .before), sym (permits (c .before)) ∙ c .if4 .taken)
-
-word-requires-2 : tie.Need-word-requires-2
-word-requires-2 c κs = search tests
-
-cast-count : tie.Need-cast-count
-cast-count c = search tests
-
-mul-whole : tie.Need-mul-whole
-mul-whole c = search tests
-
-add-whole : tie.Need-add-whole
-add-whole c = search tests
 
 returns-5 : tie.Need-returns-5
 returns-5 c =
@@ -105,20 +74,6 @@ returns-7 c =
 
 pub header-spec : {M : Type 1} → statement M
 header-spec =
-    tie.close
-    (tie.spec
-    returns
-    letters-requires
-    returns-2
-    word-requires
-    returns-3
-    settings-requires
-    permitted-requires
-    returns-4
-    word-requires-2
-    cast-count
-    mul-whole
-    add-whole
-    returns-5
-    returns-6
-    returns-7)
+    tie.close (tie.spec (λ c. search tests) (λ c κs. search tests) returns-2 (λ c κs. search tests) returns-3
+    (λ c κs. search tests) (λ c κs. search tests) returns-4 (λ c κs. search tests) (λ c. search tests)
+    (λ c. search tests) (λ c. search tests) returns-5 returns-6 returns-7)

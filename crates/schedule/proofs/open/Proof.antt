@@ -1,8 +1,8 @@
 use mathlib.Core.Path.{_≡_, sym, ap, _∙_}
 use native.Mathlib.Omega.{arith}
 use Rattle.file.specs.File.{countOf, codeBad, anyBelow}
-use Rattle.machine.proofs.Tests.{tests}
 use Rattle.file.proofs.Headers.{Header, passed, opening-refused, opening-passed}
+use Rattle.machine.proofs.Tests.{tests}
 use Rattle.schedule.proofs.open.Statement.{statement}
 use Rattle.schedule.proofs.open.Tie as tie
 
@@ -13,20 +13,8 @@ good c = passed _ _ (c .before .before .header .ensures) (c .enum-told .given .1
 flagged : (c : tie.After-bad-code) → anyBelow (codeBad (c .before .before .before .before .before .before .args .file .now)) (countOf (c .before .before .before .before .before .before .args .file .now)) ≡ c .bad-code .result
 flagged c = ap (anyBelow (codeBad (c .before .before .before .before .before .before .args .file .now))) (sym (c .before .word .ensures)) ∙ sym (c .bad-code .ensures)
 
-header-requires : tie.Need-header-requires
-header-requires c κs = search tests
-
-enum-known-verdict : tie.Need-enum-known-verdict
-enum-known-verdict c = search tests
-
-enum-told : tie.Need-enum-told
-enum-told c = search tests
-
 word-requires : tie.Need-word-requires
 word-requires c κs = omega (arith, good c .long)
-
-cast-bad-code : tie.Need-cast-bad-code
-cast-bad-code c = search tests
 
 bad-code-requires : tie.Need-bad-code-requires
 bad-code-requires c κs = omega (arith, good (c .before) .whole, c .word .ensures)
@@ -45,15 +33,5 @@ returns-3 c = rw (opening-passed _ _ (c .before .before .before .before .before 
 
 pub open-spec : {M : Type 1} → statement M
 open-spec =
-    tie.close
-    (tie.spec
-    header-requires
-    enum-known-verdict
-    enum-told
-    word-requires
-    cast-bad-code
-    bad-code-requires
-    returns
-    settings-requires
-    returns-2
-    returns-3)
+    tie.close (tie.spec (λ c κs. search tests) (λ c. search tests) (λ c. search tests) word-requires
+    (λ c. search tests) bad-code-requires returns settings-requires returns-2 returns-3)

@@ -1,18 +1,13 @@
 -- The events before i are behind the header.
-use mathlib.Core.Path.{_≡_, sym, ap, _∙_}
-use mathlib.Core.List.{List}
+use mathlib.Core.{Path.{_≡_, sym, ap, _∙_}, List.List}
 use Prim.Native.Nat.{ℕ, _-_, _≤_}
 use native.Mathlib.Omega.{arith}
-use lib.ListN.{length, take, getD}
-use lib.Seq.{take-all}
+use lib.{ListN.{length, take, getD}, Seq.take-all}
 use borrow.Author.Tests.{ltb-false}
-use Rattle.file.specs.File.{codeIn, numberBad, eventsBytes}
+use Rattle.file.{specs.File.{codeIn, numberBad, eventsBytes}, proofs.Search.none-below}
 use Rattle.machine.proofs.Tests.{tests}
-use Rattle.text.specs.Put.{put}
-use Rattle.text.proofs.Putting.{put-nothing}
-use Rattle.file.proofs.Search.{none-below}
-use Rattle.schedule.proofs.Bytes.{length-behind, put-more}
-use Rattle.schedule.proofs.put_events.Statement.{statement}
+use Rattle.text.{specs.Put.put, proofs.Putting.put-nothing}
+use Rattle.schedule.proofs.{Bytes.{length-behind, put-more}, put_events.Statement.statement}
 use Rattle.schedule.proofs.put_events.Tie as tie
 
 abbrev Inv-loop : tie.InvT-loop
@@ -32,26 +27,8 @@ known c = ltb-false _ _ (none-below (numberBad (c .before .before .before .befor
 loop-holds : tie.Need-loop-holds Inv-loop μ-loop
 loop-holds c = (search tests, sym (put-nothing _ 11))
 
-mul-put-event : tie.Need-mul-put-event Inv-loop μ-loop
-mul-put-event c = search tests
-
-add-put-event : tie.Need-add-put-event Inv-loop μ-loop
-add-put-event c = search tests
-
-mul-put-event-2 : tie.Need-mul-put-event-2 Inv-loop μ-loop
-mul-put-event-2 c = search tests
-
-shared-slice-read-put-event : tie.Need-shared-slice-read-put-event Inv-loop μ-loop
-shared-slice-read-put-event c = search tests
-
 put-event-requires : tie.Need-put-event-requires Inv-loop μ-loop
 put-event-requires c κs = (omega (arith, kept (c .before .before .before)), known (c .before .before))
-
-add-i : tie.Need-add-i Inv-loop μ-loop
-add-i c = search tests
-
-loop-less : tie.Need-loop-less Inv-loop μ-loop
-loop-less c = search tests
 
 loop-again : tie.Need-loop-again Inv-loop μ-loop
 loop-again c = (search tests, c .before .before .put-event .ensures ∙ put-more _ _ (c .before .before .before .before .before .before .before .before .before .args .events .now) _ (c .before .before .before .before .before .loop-test .taken) (c .before .before .before .before .before .before .before .before .before .pre .0) (c .before .before .before .before .before .before .loop .inv .1))
@@ -64,18 +41,6 @@ returns c = c .before .loop .inv .1 ∙ ap (λ (l : List ℕ). put (c .before .b
 
 pub put-events-spec : {M : Type 1} → statement M
 put-events-spec =
-    tie.close
-    (tie.spec
-    Inv-loop
-    μ-loop
-    loop-holds
-    mul-put-event
-    add-put-event
-    mul-put-event-2
-    shared-slice-read-put-event
-    put-event-requires
-    add-i
-    loop-less
-    loop-again
-    same-length
+    tie.close (tie.spec Inv-loop μ-loop loop-holds (λ c. search tests) (λ c. search tests) (λ c. search tests)
+    (λ c. search tests) put-event-requires (λ c. search tests) (λ c. search tests) loop-again same-length
     returns)

@@ -2,8 +2,7 @@ use mathlib.Core.Path.{_≡_, _∙_}
 use native.Mathlib.Omega.{arith}
 use lib.ListN.{length, length-set}
 use Rattle.machine.proofs.Tests.{tests}
-use Rattle.schedule.proofs.Bytes.{header-put}
-use Rattle.schedule.proofs.put_header.Statement.{statement}
+use Rattle.schedule.proofs.{Bytes.header-put, put_header.Statement.statement}
 use Rattle.schedule.proofs.put_header.Tie as tie
 
 -- the room is as long as it was, after one word and after two
@@ -12,9 +11,6 @@ kept c = c .put-word .kept .0 ∙ simp length-set
 
 kept-2 : (c : tie.After-put-word2) → length (c .put-word2 .last .0) ≡ length (c .before .before .before .before .before .before .before .before .args .room .now)
 kept-2 c = c .put-word2 .kept .0 ∙ simp length-set (kept (c .before .before .before .before))
-
-slice-write-room : tie.Need-slice-write-room
-slice-write-room c = search tests
 
 slice-write-room-2 : tie.Need-slice-write-room-2
 slice-write-room-2 c = simp length-set (omega arith)
@@ -30,9 +26,6 @@ slice-write-room-5 c = simp length-set (omega arith)
 
 slice-write-room-6 : tie.Need-slice-write-room-6
 slice-write-room-6 c = simp length-set (omega arith)
-
-cast-put-word : tie.Need-cast-put-word
-cast-put-word c = search tests
 
 put-word-requires : tie.Need-put-word-requires
 put-word-requires c κs = simp length-set (omega arith)
@@ -53,17 +46,6 @@ returns c =
 
 pub put-header-spec : {M : Type 1} → statement M
 put-header-spec =
-    tie.close
-    (tie.spec
-    slice-write-room
-    slice-write-room-2
-    slice-write-room-3
-    slice-write-room-4
-    slice-write-room-5
-    slice-write-room-6
-    cast-put-word
-    put-word-requires
-    slice-write-room-7
-    put-word-requires-2
-    same-length
-    returns)
+    tie.close (tie.spec (λ c. search tests) slice-write-room-2 slice-write-room-3 slice-write-room-4
+    slice-write-room-5 slice-write-room-6 (λ c. search tests) put-word-requires slice-write-room-7
+    put-word-requires-2 same-length returns)

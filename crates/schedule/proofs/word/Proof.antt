@@ -11,15 +11,6 @@ low-byte c = omega (arith, c .shared-slice-known2 .given (c .before .before .arg
 high-byte : (c : tie.After-shared-slice-known2) → getD (c .before .before .args .file .now) (c .before .before .args .i + 1) 0 < 256
 high-byte c = omega (arith, c .shared-slice-known2 .given (c .before .before .args .i + 1))
 
-shared-slice-read-low : tie.Need-shared-slice-read-low
-shared-slice-read-low c = search tests
-
-add-high : tie.Need-add-high
-add-high c = search tests
-
-shared-slice-read-high : tie.Need-shared-slice-read-high
-shared-slice-read-high c = search tests
-
 cast-result : tie.Need-cast-result
 cast-result c = omega (arith, low-byte c, high-byte c)
 
@@ -32,18 +23,7 @@ mul-result c = omega (arith, low-byte c, high-byte c)
 add-result : tie.Need-add-result
 add-result c = omega (arith, low-byte c, high-byte c)
 
-returns : tie.Need-returns
-returns c = search tests
-
 pub word-spec : {M : Type 1} → statement M
 word-spec =
-    tie.close
-    (tie.spec
-    shared-slice-read-low
-    add-high
-    shared-slice-read-high
-    cast-result
-    cast-result-2
-    mul-result
-    add-result
-    returns)
+    tie.close (tie.spec (λ c. search tests) (λ c. search tests) (λ c. search tests) cast-result cast-result-2
+    mul-result add-result (λ c. search tests))

@@ -1,15 +1,11 @@
 -- What each test shows once it is passed, and from these the outcome at each return.
-use mathlib.Core.Path.{_≡_, sym, ap, _∙_}
-use mathlib.Core.Bool.{false, not}
+use mathlib.Core.{Path.{_≡_, sym, ap, _∙_}, Bool.{false, not}}
 use native.Mathlib.Omega.{arith}
-use lib.Dec.{ltb}
-use lib.ListN.{length}
+use lib.{Dec.ltb, ListN.length}
 use borrow.Author.Tests.{lt-ltb, le-ltb}
-use Rattle.machine.specs.Refusals.{outsideLimits}
+use Rattle.machine.{specs.Refusals.outsideLimits, proofs.Tests.tests}
 use Rattle.file.specs.File.{mostEvents, fileLength, anyBelow, numberBad, writtenOf}
-use Rattle.machine.proofs.Tests.{tests}
-use Rattle.schedule.proofs.Bytes.{put-file}
-use Rattle.schedule.proofs.write.Statement.{statement}
+use Rattle.schedule.proofs.{Bytes.put-file, write.Statement.statement}
 use Rattle.schedule.proofs.write.Tie as tie
 
 within : (c : tie.Else1) → outsideLimits (c .before .before .before .before .args .s) ≡ false
@@ -28,14 +24,8 @@ roomy c = le-ltb _ _ (c .if4 .left)
 kept : (c : tie.After-put-header) → length (c .put-header .last .0) ≡ length (c .before .before .before .before .before .before .before .before .before .before .args .room .now)
 kept c = c .put-header .kept .0
 
-permitted-requires : tie.Need-permitted-requires
-permitted-requires c κs = search tests
-
 returns : tie.Need-returns
 returns c = rw (ap not (sym (c .before .permitted .ensures)) ∙ c .if1 .taken)
-
-bad-number-requires : tie.Need-bad-number-requires
-bad-number-requires c κs = search tests
 
 returns-2 : tie.Need-returns-2
 returns-2 c = rw (within (c .before .before), lt-ltb _ _ (c .if2 .taken))
@@ -43,20 +33,8 @@ returns-2 c = rw (within (c .before .before), lt-ltb _ _ (c .if2 .taken))
 returns-3 : tie.Need-returns-3
 returns-3 c = rw (within (c .before .before .before), few (c .before), sym (c .before .before .bad-number .ensures) ∙ c .if3 .taken)
 
-mul-length : tie.Need-mul-length
-mul-length c = search tests
-
-add-length : tie.Need-add-length
-add-length c = search tests
-
 returns-4 : tie.Need-returns-4
 returns-4 c = rw (within (c .before .before .before .before), few (c .before .before), coded (c .before), lt-ltb _ _ (c .if4 .taken))
-
-cast-put-header : tie.Need-cast-put-header
-cast-put-header c = search tests
-
-put-header-requires : tie.Need-put-header-requires
-put-header-requires c κs = search tests
 
 put-events-requires : tie.Need-put-events-requires
 put-events-requires c κs = (omega (arith, kept (c .before .before .before), c .before .before .before .before .before .if4 .left), coded (c .before .before .before .before .before .before))
@@ -73,18 +51,6 @@ returns-5 c =
 
 pub write-spec : {M : Type 1} → statement M
 write-spec =
-    tie.close
-    (tie.spec
-    permitted-requires
-    returns
-    bad-number-requires
-    returns-2
-    returns-3
-    mul-length
-    add-length
-    returns-4
-    cast-put-header
-    put-header-requires
-    put-events-requires
-    same-length
-    returns-5)
+    tie.close (tie.spec (λ c κs. search tests) returns (λ c κs. search tests) returns-2 returns-3
+    (λ c. search tests) (λ c. search tests) returns-4 (λ c. search tests) (λ c κs. search tests)
+    put-events-requires same-length returns-5)

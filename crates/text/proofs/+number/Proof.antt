@@ -3,15 +3,13 @@ use native.Mathlib.Omega.{arith}
 use lib.ListN.{length-set}
 use denote.Ref.{now}
 use Rattle.text.proofs.Digits.{one-digit-long, one-digit-longer, puts-one-digit, puts-one-digit-more}
+use Rattle.text.proofs.+number.{statement, Tie.close}
 use borrow.Author.Needs.{needs}
 use Prim.Native.Nat.{ℕ, _<_}
-use borrow.Fn.Kinds.{In}
-use borrow.Fn.PlainCycle.{Measures, is, falls, and}
+use borrow.Fn.{Kinds.In, PlainCycle.{Measures, is, falls, and}}
 use Rattle.text.proofs.number.Reads as number
 use Rattle.text.proofs.number.Kinds as number-kinds
 use Rattle.text.proofs.+number.Lts-number as number-lts
-use Rattle.text.proofs.+number.{statement}
-use Rattle.text.proofs.+number.Tie.{close}
 
 abbrev μ-number : Measures 1 number-kinds.ps ℕ
 μ-number κs a = a .1 .1 .0
@@ -21,14 +19,6 @@ number-at t = and 1 number-kinds.ps (is 1 number-kinds.ps μ-number t) number.Pr
 
 abbrev number-below : ℕ → In 1 number-kinds.ps
 number-below t = and 1 number-kinds.ps (falls 1 number-kinds.ps _<_ μ-number t) number.Pre
-
-number-add-out :
-    (t : ℕ) → number-lts.Need-add-out (number-below t, number.Post) (number-at t) number.Post
-number-add-out t c = search needs
-
-number-cast-out :
-    (t : ℕ) → number-lts.Need-cast-out (number-below t, number.Post) (number-at t) number.Post
-number-cast-out t c = search needs
 
 number-slice-write-out :
     (t : ℕ) →
@@ -53,14 +43,6 @@ number-number-requires :
     (t : ℕ) →
     number-lts.Need-number-requires (number-below t, number.Post) (number-at t) number.Post
 number-number-requires t c κs = omega (arith, one-digit-longer (c .before .before .before .args .n) (c .before .if1 .left))
-
-number-add-out-2 :
-    (t : ℕ) → number-lts.Need-add-out-2 (number-below t, number.Post) (number-at t) number.Post
-number-add-out-2 t c = omega arith
-
-number-cast-out-2 :
-    (t : ℕ) → number-lts.Need-cast-out-2 (number-below t, number.Post) (number-at t) number.Post
-number-cast-out-2 t c = omega arith
 
 number-slice-write-out-2 : (t : ℕ) → number-lts.Need-slice-write-out-2 (
   number-below t,
@@ -91,15 +73,15 @@ pub +number-spec : {M : Type 1} → statement M
     (number-below t, number.Post)
     (number-at t)
     number.Post
-    (number-add-out t)
-    (number-cast-out t)
+    (λ c. search needs)
+    (λ c. search needs)
     (number-slice-write-out t)
     (number-add-result t)
     (number-same-length t)
     (number-returns t)
     (number-number-requires t)
-    (number-add-out-2 t)
-    (number-cast-out-2 t)
+    (λ c. omega arith)
+    (λ c. omega arith)
     (number-slice-write-out-2 t)
     (number-add-result-2 t)
     (number-same-length-2 t)
