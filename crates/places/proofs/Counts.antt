@@ -21,7 +21,8 @@ module _ (a b : ℕ) (small-a : a ≤ 256) (small-b : b ≤ 256) where
 -- a place's number fits a name
 pub place-number-fits : (side r c : ℕ) → side ≤ 16 → r + c ≤ side → Fits w16 (placeNumber side r c)
 unfolding placeNumber
-place-number-fits side r c small low = omega (arith, mul-le-mul {n₁ = r} {m₁ = side} {n₂ = 16} {m₂ = 16} (omega arith) small)
+place-number-fits side r c small low =
+    omega (arith, mul-le-mul {n₁ = r} {m₁ = side} {n₂ = 16} {m₂ = 16} (omega arith) small)
 
 pub half-small : (r : ℕ) → r ≤ 16 → half r ≤ 120
 unfolding half
@@ -35,9 +36,11 @@ pub marks-of : (s : Settings) (count each : ℕ) → count ≡ blocks s → each
 marks-of s count each many wide = rw (many, wide)
 
 pub marks-most : (s : Settings) → WithinLimits s → marksNeeded s ≤ 30720
-marks-most s limit = mul-le-mul {n₁ = blocks s} {m₁ = width s} {n₂ = 120} {m₂ = 256} (blocks-most s limit) (width-most s limit)
+marks-most s limit =
+    mul-le-mul {n₁ = blocks s} {m₁ = width s} {n₂ = 120} {m₂ = 256} (blocks-most s limit) (width-most s limit)
 
-pub mark-index-below : (s : Settings) (block place : ℕ) → block < blocks s → place < width s → markIndex s block place < marksNeeded s
+pub mark-index-below : (s : Settings) (block place : ℕ) → block < blocks s → place < width s
+    → markIndex s block place < marksNeeded s
 mark-index-below s block place b p =
-    let room : suc block * width s ≤ marksNeeded s = mul-le-mul-right {m = suc block} {n = blocks s} (width s) (omega arith) in
+    let room = mul-le-mul-right {m = suc block} {n = blocks s} (width s) (omega arith) in
     omega (arith, suc-mul block (width s))

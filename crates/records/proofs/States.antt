@@ -50,7 +50,8 @@ module _ (s : Settings) (r c : ℕ) where
   holds-near state ok good is = le-trans (holds-on-place state good is) (limits s ok .k-most)
 
   -- a release clears the own mark of a block, and touches nothing on the edge
-  pub releases-block : (p : ℕ) → r + c + 2 ≤ s .k → MarkWritten (blockNumber s r c) (own s p) 0 ≡ releaseAccess s p (Holding r c)
+  pub releases-block : (p : ℕ) → r + c + 2 ≤ s .k
+      → MarkWritten (blockNumber s r c) (own s p) 0 ≡ releaseAccess s p (Holding r c)
   releases-block p on = rw (le-leb (r + c + 2) (s .k) on)
 
   pub releases-edge : (p : ℕ) → s .k < r + c + 2 → NoAccess ≡ releaseAccess s p (Holding r c)

@@ -13,7 +13,8 @@ digits-same zero g n l m = absurd (not-suc-le-zero l)
 digits-same (suc f) zero n l m = absurd (not-suc-le-zero m)
 digits-same (suc f) (suc g) n l m = go (ltb n 10) refl (digits-same f g (n / 10))
   where
-    go : (b : Bool) → ltb n 10 ≡ b → (n / 10 < f → n / 10 < g → digits f (n / 10) ≡ digits g (n / 10)) → digits (suc f) n ≡ digits (suc g) n
+    go : (b : Bool) → ltb n 10 ≡ b → (n / 10 < f → n / 10 < g → digits f (n / 10) ≡ digits g (n / 10))
+        → digits (suc f) n ≡ digits (suc g) n
     go true e same = let h = ltb-true n 10 e in rw (lt-ltb n 10 h)
     go false e same = let h = ltb-false n 10 e in rw (le-ltb n 10 h, same (omega arith) (omega arith))
 
@@ -57,5 +58,7 @@ module _ (room : List ℕ) (at n : ℕ) (fits : at + length (decimal n) ≤ leng
       let past = before .past in
       record {
         past = omega arith;
-        room-after = rw (before .room-after, one-digit-more n l) (put-byte-after room at (decimal (n / 10)) (48 + n % 10) to past (omega arith));
+        room-after =
+            rw (before .room-after, one-digit-more n l)
+            (put-byte-after room at (decimal (n / 10)) (48 + n % 10) to past (omega arith));
       }

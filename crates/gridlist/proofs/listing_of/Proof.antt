@@ -1,4 +1,5 @@
--- `listing_of` hands back the part that `list` filled: no file is refused for want of room, and the text is the whole listing.
+-- `listing_of` hands back the part that `list` filled: no file is refused for want of room, and the text is the whole
+-- listing.
 use mathlib.Core.Path.{sym, ap, _∙_}
 use lib.Seq.{length-take-le}
 use denote.Ref.{now}

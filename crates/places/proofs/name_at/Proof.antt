@@ -8,7 +8,8 @@ use Rattle.places.proofs.{Counts.place-number-fits, name_at.Statement.s
 use Rattle.places.proofs.name_at.Tie as tie
 
 -- the names are the numbers of the triangle of side k
-named-in-triangle : (s : Settings) (side r c : ℕ) → side ≡ s .k → _≡_ {A = Name} (record { 0 = placeNumber side r c }) (nameAt s r c)
+named-in-triangle : (s : Settings) (side r c : ℕ) → side ≡ s .k
+    → _≡_ {A = Name} (record { 0 = placeNumber side r c }) (nameAt s r c)
 named-in-triangle s side r c whole = ap (λ (x : ℕ). record { 0 = placeNumber x r c }) whole
 
 place-number-requires : tie.Need-place-number-requires

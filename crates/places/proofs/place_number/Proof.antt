@@ -20,8 +20,9 @@ sub-result c = rw (c .half .ensures) (half-below _ _ (omega arith))
 
 add-result : tie.Need-add-result
 add-result c =
-    let limit = limits (c .before .before .args .s) (c .before .before .pre .0) in
-    omega (arith, product-small (c .before .before .args .r) (c .before .before .args .s .k - c .before .before .args .less) (omega arith) (omega arith))
+    let a = c .before .before .args in
+    let limit = limits (a .s) (c .before .before .pre .0) in
+    omega (arith, product-small (a .r) (a .s .k - a .less) (omega arith) (omega arith))
 
 returns : tie.Need-returns
 unfolding placeNumber

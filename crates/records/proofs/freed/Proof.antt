@@ -1,4 +1,5 @@
--- The answer with the freed name is the definition's `freed`: a holding record in range is on a place, which has a name.
+-- The answer with the freed name is the definition's `freed`: a holding record in range is on a place, which has a
+-- name.
 use mathlib.Core.Path.{ap}
 use native.Mathlib.Omega.{arith}
 use Rattle.machine.{specs.declared.Answer.the-variants.Freed, proofs.Tests.tests}

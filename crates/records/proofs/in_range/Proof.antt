@@ -7,13 +7,16 @@ use Rattle.records.proofs.in_range.Tie as tie
 
 returns : tie.Need-returns
 returns c =
-    let state = c .before .before .before .state .given in
-    rw (state .1) (seeks-off-blocks (c .before .before .before .before .before .args .s) _ _ (state .0 .1 .1 .0) (omega arith))
+    let known = c .before .before .before in
+    let state = known .state .given in
+    rw (state .1) (seeks-off-blocks (known .before .before .args .s) _ _ (state .0 .1 .1 .0) (omega arith))
 
 returns-3 : tie.Need-returns-3
 returns-3 c =
-    let state = c .before .before .before .before .state .given in
-    rw (state .1) (c .point-in-range .ensures ∙ seeks-by-point (c .before .before .before .before .before .before .args .s) _ _ (state .0 .1 .1 .0) (omega arith))
+    let known = c .before .before .before .before in
+    let state = known .state .given in
+    rw (state .1)
+    (c .point-in-range .ensures ∙ seeks-by-point (known .before .before .args .s) _ _ (state .0 .1 .1 .0) (omega arith))
 
 returns-4 : tie.Need-returns-4
 returns-4 c = rw (c .before .before .state2 .given .1) refl

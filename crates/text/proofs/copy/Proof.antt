@@ -22,17 +22,23 @@ loop-again : tie.Need-loop-again Inv-loop μ-loop
 loop-again c =
     let a = c .before .before .before .args in
     let i = c .before .before .loop .i in
-    let inv = c .before .before .loop .inv in
-    (search needs, rw (inv .1) (put-more (now (a .out)) (a .at) (now (a .text)) i (search needs) (search needs)), simp length-set (inv .2))
+    let inv = c .before .before .loop .inv in (
+      search needs,
+      rw (inv .1) (put-more (now (a .out)) (a .at) (now (a .text)) i (search needs) (search needs)),
+      simp length-set (inv .2),
+    )
 
 same-length : tie.Need-same-length Inv-loop μ-loop
 same-length c = c .before .loop .inv .2
 
 returns : tie.Need-returns Inv-loop μ-loop
 returns c =
-    let a = c .before .before .args in
-    let all : c .before .loop .i ≡ length (now (a .text)) = omega arith in
-    record { past = search needs; room-after = c .before .loop .inv .1 ∙ rw (take-all (c .before .loop .i) (now (a .text)) (omega arith)) }
+    let text = now (c .before .before .args .text) in
+    let all : c .before .loop .i ≡ length text = omega arith in
+    record {
+      past = search needs;
+      room-after = c .before .loop .inv .1 ∙ rw (take-all (c .before .loop .i) text (omega arith));
+    }
 
 pub copy-spec : {M : Type 1} → statement M
 copy-spec =
