@@ -16,16 +16,21 @@ abbrev μ-loop : tie.MeasureT-loop
 
 returns : tie.Need-returns Inv-loop μ-loop
 returns c =
-    any-found (codeBad (c .before .before .before .before .args .file .now)) _ _ (c .before .before .loop-test .taken) (lt-ltb _ _ (c .if1 .taken))
+    let inside = c .before .before in
+    let bad = codeBad (inside .before .before .args .file .now) in
+    any-found bad _ _ (inside .loop-test .taken) (lt-ltb _ _ (c .if1 .taken))
 
 loop-again : tie.Need-loop-again Inv-loop μ-loop
-loop-again c = (
-  search tests,
-  none-more (codeBad (c .before .before .before .before .args .file .now)) _ (c .before .before .before .loop .inv .1) (le-ltb _ _ (c .if1 .left)),
-)
+loop-again c =
+    let turn = c .before .before .before in
+    let bad = codeBad (turn .before .args .file .now) in
+    (search tests, none-more bad _ (turn .loop .inv .1) (le-ltb _ _ (c .if1 .left)))
 
 returns-2 : tie.Need-returns-2 Inv-loop μ-loop
-returns-2 c = sym (subst (λ (m : ℕ). anyBelow (codeBad (c .before .before .args .file .now)) m ≡ false) (le-antisymm (c .before .loop .inv .0) (c .loop-test .left)) (c .before .loop .inv .1))
+returns-2 c =
+    let bad = codeBad (c .before .before .args .file .now) in
+    let inv = c .before .loop .inv in
+    sym (subst (λ (m : ℕ). anyBelow bad m ≡ false) (le-antisymm (inv .0) (c .loop-test .left)) (inv .1))
 
 pub bad-code-spec : {M : Type 1} → statement M
 bad-code-spec =

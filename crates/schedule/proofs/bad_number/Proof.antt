@@ -17,16 +17,21 @@ abbrev μ-loop : tie.MeasureT-loop
 
 returns : tie.Need-returns Inv-loop μ-loop
 returns c =
-    any-found (numberBad (c .before .before .before .before .args .events .now)) _ _ (c .before .before .loop-test .taken) (lt-ltb _ _ (c .if1 .taken))
+    let inside = c .before .before in
+    let bad = numberBad (inside .before .before .args .events .now) in
+    any-found bad _ _ (inside .loop-test .taken) (lt-ltb _ _ (c .if1 .taken))
 
 loop-again : tie.Need-loop-again Inv-loop μ-loop
-loop-again c = (
-  search tests,
-  none-more (numberBad (c .before .before .before .before .args .events .now)) _ (c .before .before .before .loop .inv .1) (le-ltb _ _ (c .if1 .left)),
-)
+loop-again c =
+    let turn = c .before .before .before in
+    let bad = numberBad (turn .before .args .events .now) in
+    (search tests, none-more bad _ (turn .loop .inv .1) (le-ltb _ _ (c .if1 .left)))
 
 returns-2 : tie.Need-returns-2 Inv-loop μ-loop
-returns-2 c = sym (subst (λ (m : ℕ). anyBelow (numberBad (c .before .before .args .events .now)) m ≡ false) (le-antisymm (c .before .loop .inv .0) (c .loop-test .left)) (c .before .loop .inv .1))
+returns-2 c =
+    let bad = numberBad (c .before .before .args .events .now) in
+    let inv = c .before .loop .inv in
+    sym (subst (λ (m : ℕ). anyBelow bad m ≡ false) (le-antisymm (inv .0) (c .loop-test .left)) (inv .1))
 
 pub bad-number-spec : {M : Type 1} → statement M
 bad-number-spec =

@@ -6,11 +6,17 @@ use Rattle.schedule.proofs.{Bytes.header-put, put_header.Statement.stat
 use Rattle.schedule.proofs.put_header.Tie as tie
 
 -- the room is as long as it was, after one word and after two
-kept : (c : tie.After-put-word) → length (c .put-word .last .0) ≡ length (c .before .before .before .before .args .room .now)
+abbrev start : tie.After-put-word → tie.Start
+start c = c .before .before .before .before
+
+kept : (c : tie.After-put-word) → length (c .put-word .last .0) ≡ length (start c .args .room .now)
 kept c = c .put-word .kept .0 ∙ simp length-set
 
-kept-2 : (c : tie.After-put-word2) → length (c .put-word2 .last .0) ≡ length (c .before .before .before .before .before .before .before .before .args .room .now)
-kept-2 c = c .put-word2 .kept .0 ∙ simp length-set (kept (c .before .before .before .before))
+abbrev worded : tie.After-put-word2 → tie.After-put-word
+worded c = c .before .before .before .before
+
+kept-2 : (c : tie.After-put-word2) → length (c .put-word2 .last .0) ≡ length (start (worded c) .args .room .now)
+kept-2 c = c .put-word2 .kept .0 ∙ simp length-set (kept (worded c))
 
 slice-write-room-2 : tie.Need-slice-write-room-2
 slice-write-room-2 c = simp length-set (omega arith)
@@ -41,8 +47,9 @@ same-length c = kept-2 (c .before .before)
 
 returns : tie.Need-returns
 returns c =
-    let s = c .before .before .before .before .before .before .before .before .before .before .args .s in
-    header-put _ s _ _ _ (c .before .before .before .before .before .before .before .before .before .before .pre) (c .before .before .before .before .before .before .put-word .ensures) (c .before .before .put-word2 .ensures)
+    let first = worded (c .before .before) in
+    header-put _ (start first .args .s) _ _ _ (start first .pre) (first .put-word .ensures)
+    (c .before .before .put-word2 .ensures)
 
 pub put-header-spec : {M : Type 1} → statement M
 put-header-spec =
