@@ -12,7 +12,7 @@ use denote.{Ref.now, Steps.nothing, Struct.Rest.{all-own, own-open}}
 use denote.Triple.{Clauses.{ensured, lasts}, Spec.tripleOf, Statement.Contract}
 use Rattle.file.specs.File.{reading}
 use Rattle.schedule.specs.{Next.nextOf, declared.{Next.Next, Reader.Reader}}
-use Rattle.schedule.proofs.Readers.{lifetime, readers, file-value}
+use Rattle.schedule.proofs.Readers.{readers, reader-type, reader-laws, file-value}
 use Rattle.schedule.proofs.Reader as Reader
 use Rattle.schedule.proofs.Reader.Laws as Reader′
 use Rattle.schedule.proofs.event_at as event
@@ -33,8 +33,8 @@ module _ {M : Type 1} (𝓤 : URA M) (H : Heap 𝓤) (A : Atoms 𝓤) (mem : Mem
     pub event-asks : Given 𝓤 H A → ent 𝓤 (sep 𝓤 (sem 𝓤 H A (readers ℓ κ .own reader (Reader′.lowered reader ∷ []))) (A .lft κ q)) (EventAt .pre event-passed)
     event-asks W =
         qed W (‵ (readers ℓ κ .own reader (Reader′.lowered reader ∷ [])) ∷ ‵ (flft κ q) ∷ []) ∵
-        use1 W (given (Reader′.lowered reader ∷ [] ≡ Reader′.lowered reader ∷ []) (‵ (all-own (Reader.the-type (lifetime ℓ κ) .parts) (Reader′.the-laws (lifetime ℓ κ)) (reader .file, (reader .at, tt)))))
-        (own-open 𝓤 H A W (Reader.the-type (lifetime ℓ κ)) (Reader′.the-laws (lifetime ℓ κ)) (reader .file, (reader .at, tt)) (Reader′.lowered reader)) $
+        use1 W (given (Reader′.lowered reader ∷ [] ≡ Reader′.lowered reader ∷ []) (‵ (all-own (reader-type ℓ κ .parts) (reader-laws ℓ κ) (reader .file, (reader .at, tt)))))
+        (own-open 𝓤 H A W (reader-type ℓ κ) (reader-laws ℓ κ) (reader .file, (reader .at, tt)) (Reader′.lowered reader)) $
         learn ! (λ _. nothing ! $ move ! (2 ∷ 0 ∷ []) $ join ! $ join ! $ frame ! $ done !)
 
     abbrev pub event-ensures : Next → SProp 𝓤

@@ -12,11 +12,12 @@ use ghost.Atoms.{Atoms, sem}
 use contract.{BorrowLft.meet-⊑-right, Monad.{Fun, fact}}
 use types.Kit.{Given, Item, ‵, raw, mean, some, later, _⊛_, _$_, _∵_, !, qed, move, keep, drop, use1, use2, split, join}
 use types.Kit.{pick, await, updating, now as at-once, show, check, rewrite, fsplit, fjoin, fpick, fpack, frame, done}
-use denote.{RattleType.RattleType, Laws.{Is, shows}, Memory.{mem, cellAt, partOf}, Steps.{nothing, facts, heard, peeks}}
-use denote.{Struct.Steps.spelt, Triple.{Clauses.{ensured, lasts}, Spec.tripleOf, Statement.Contract}}
+use denote.{Ref.RefT, RattleType.RattleType, Laws.{Is, shows}, Memory.{mem, cellAt, partOf}}
+use denote.{Steps.{nothing, facts, heard, peeks}, Struct.Steps.spelt}
+use denote.Triple.{Clauses.{ensured, lasts}, Spec.tripleOf, Statement.Contract}
 use Rattle.machine.specs.declared.Reading.{Reading}
 use Rattle.schedule.specs.{Asked.{readerAt, Asked}, declared.Reader.Reader}
-use Rattle.schedule.proofs.Readers.{lifetime, readers, answers, answer-value, answer-tells}
+use Rattle.schedule.proofs.Readers.{readers, reader-type, reader-laws, answers, answer-value, answer-tells}
 use Rattle.schedule.proofs.Result.{Comes, comes-as}
 use Rattle.schedule.proofs.LentWithin.{Loan, during, loaned, spared, reference, keeps, handed, lent, comes-back}
 use Rattle.schedule.proofs.EventCall.{standing}
@@ -41,12 +42,16 @@ module _ {M : Type 1} (𝓤 : URA M) (H : Heap 𝓤) (A : Atoms 𝓤) (at-mem : 
     abbrev pub cell : Reader → Fml
     cell r = fat fullShare (Reader′.mir erased) local 0 (Reader′.lowered r)
 
+    -- the reader, as a loan of its local lends it
+    abbrev lent-reader : Loan → RefT Reader
+    lent-reader = reference 𝓤 H A W B κ q local reader
+
     abbrev pub kept : Loan → Item 𝓤
     kept = keeps 𝓤 H A W B κ q local
 
     abbrev pub next-passed : Loan → ToNext .Ghost
     next-passed loan =
-        (((during κ q loan, (κ, tt)), (loaned κ q, (spared κ q, tt)), (meet-⊑-right (loan .0 ∷ []) κ, tt), (reference 𝓤 H A W B κ q local reader loan, tt), (vptr local 0 ∷ [], tt)), tt)
+        (((during κ q loan, (κ, tt)), (loaned κ q, (spared κ q, tt)), (meet-⊑-right (loan .0 ∷ []) κ, tt), (lent-reader loan, tt), (vptr local 0 ∷ [], tt)), tt)
 
     abbrev pub Goes : Loan → SProp 𝓤
     Goes loan = sep 𝓤 (ToNext .pre (next-passed loan)) (mean 𝓤 H A (kept loan))
@@ -71,11 +76,11 @@ module _ {M : Type 1} (𝓤 : URA M) (H : Heap 𝓤) (A : Atoms 𝓤) (at-mem : 
     abbrev Ends : Loan → Val → Reading → Item 𝓤
     Ends loan u r =
         ((‵ (flft (during κ q loan) (loaned κ q)) ⊛ (‵ (flft κ (spared κ q)) ⊛ ‵ ftrue)) ⊛ ‵ (answers .own r (u ∷ [])))
-        ⊛ raw (ensured 𝓤 H A next.ended (next.clauses 𝓤 H A at-mem run) (during κ q loan, (κ, tt)) (reference 𝓤 H A W B κ q local reader loan, tt) tt r)
+        ⊛ raw (ensured 𝓤 H A next.ended (next.clauses 𝓤 H A at-mem run) (during κ q loan, (κ, tt)) (lent-reader loan, tt) tt r)
 
     abbrev Leaves : Loan → Reading → Reader × Unit {0} → Item 𝓤
     Leaves loan r last =
-        ‵ (lasts next.ended (during κ q loan, (κ, tt)) (reference 𝓤 H A W B κ q local reader loan, tt) last) ⊛ raw (fact 𝓤 (Asked reader r (last .0)))
+        ‵ (lasts next.ended (during κ q loan, (κ, tt)) (lent-reader loan, tt) last) ⊛ raw (fact 𝓤 (Asked reader r (last .0)))
 
     pub next-back : (loan : Loan) (u : Val)
         → ent 𝓤 (sep 𝓤 (ToNext .post (next-passed loan) u) (mean 𝓤 H A (kept loan))) (H .⇛ (guard 𝓤 (Back u) (sep 𝓤 (sem 𝓤 H A (cell (moved-on reader))) (A .lft κ q))))
@@ -91,8 +96,8 @@ module _ {M : Type 1} (𝓤 : URA M) (H : Heap 𝓤) (A : Atoms 𝓤) (at-mem : 
         -- ['a's token beside; nothing; the loan's token; the last value; nothing; what the lender keeps]
         move ! (5 ∷ []) $ move ! (1 ∷ 0 ∷ []) $ join ! $ move ! (2 ∷ 0 ∷ []) $ join ! $ move ! (2 ∷ 0 ∷ []) $
         use2 W (later (‵ (mem B .lies (moved-on reader) local 0) ⊛ ‵ (flft κ q))) (comes-back 𝓤 H A W B κ q local loan (moved-on reader)) $ await ! tt $ split ! $ fpick ! (λ held. fsplit ! $
-        spelt ! B (Is B) (shows 𝓤 H A B) (Struct.vals (Reader.the-type (lifetime (named 1) κ)) (Reader′.the-laws (lifetime (named 1) κ)))
-        (Struct.tells (Reader.the-type (lifetime (named 1) κ)) (Reader′.the-laws (lifetime (named 1) κ))) fullShare (moved-on reader) held local 0 $
+        spelt ! B (Is B) (shows 𝓤 H A B) (Struct.vals (reader-type (named 1) κ) (reader-laws (named 1) κ))
+        (Struct.tells (reader-type (named 1) κ) (reader-laws (named 1) κ)) fullShare (moved-on reader) held local 0 $
         move ! (1 ∷ []) $ peeks ! B (Is B) (shows 𝓤 H A B) (moved-on reader) (Reader′.lowered (moved-on reader) ∷ []) (λ left. drop ! $
         use1 W (‵ (cell (moved-on reader))) (W .laws .raw-at fullShare (Reader′.mir erased) local 0 (Reader′.lowered (moved-on reader))) $
         at-once ! $ check ! (comes-as answers answer-value answer-tells (standing reader .answer) r u (asked .answered) is, left) $ keep ! (0 ∷ 1 ∷ []) $ done !))))))

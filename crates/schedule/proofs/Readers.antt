@@ -11,7 +11,7 @@ use prog.Wp.{Heap}
 use ghost.Atoms.{Atoms, sem}
 use types.Kit.{Given, ‵, _$_, _∵_, !, qed, by, move, fjoin}
 use denote.{RattleType.RattleType, Laws.{Is, Tells}, Plain.uint-makes, Builtin.{u8, usize}, Ref.{RefT, NamedLft}}
-use denote.{Slice.{sliceVal, ShrSlice, Room}, Steps.{nothing, owned}, Struct.Rest.own-shut}
+use denote.{Slice.{sliceVal, ShrSlice, Room}, Steps.{nothing, owned}, Struct.{Rest.own-shut, Declared.Declared}}
 use Rattle.machine.specs.declared.Reading.{Reading}
 use Rattle.schedule.specs.{declared.{Next.Next, Reader.Reader}, Asked.readerAt}
 use denote.Enum.Laws as Enum
@@ -30,6 +30,12 @@ lifetime ℓ κ = record { mir = ℓ; lft = κ }
 
 abbrev pub readers : Lifetime → Lft → RattleType
 readers ℓ κ = Reader.the-row (lifetime ℓ κ)
+
+abbrev pub reader-type : Lifetime → Lft → Declared
+reader-type ℓ κ = Reader.the-type (lifetime ℓ κ)
+
+abbrev pub reader-laws : (ℓ : Lifetime) (κ : Lft) → Struct.Laws (reader-type ℓ κ)
+reader-laws ℓ κ = Reader′.the-laws (lifetime ℓ κ)
 
 abbrev pub nexts : RattleType
 nexts = Next.the-row
@@ -64,10 +70,10 @@ module _ (next : Next) (is : Is nexts next (next-value next ∷ [])) where
 
 module _ (ℓ : Lifetime) (κ : Lft) (reader : Reader) (is : Is (readers ℓ κ) reader (Reader′.lowered reader ∷ [])) where
   pub file-room : Room u8 (length (reader .file .now))
-  file-room = Struct.owed (Reader.the-type (lifetime ℓ κ)) (Reader′.the-laws (lifetime ℓ κ)) reader _ is .0 .0 .1
+  file-room = Struct.owed (reader-type ℓ κ) (reader-laws ℓ κ) reader _ is .0 .0 .1
 
   pub position-fits : reader .at < 2 ^ 64
-  position-fits = Struct.owed (Reader.the-type (lifetime ℓ κ)) (Reader′.the-laws (lifetime ℓ κ)) reader _ is .1 .0 .1
+  position-fits = Struct.owed (reader-type ℓ κ) (reader-laws ℓ κ) reader _ is .1 .0 .1
 
 -- ---- a reader is made of what its file owns and of a position that fits
 
@@ -76,4 +82,4 @@ pub reader-made : {M : Type 1} (𝓤 : URA M) (H : Heap 𝓤) (A : Atoms 𝓤) (
     → ent 𝓤 (sem 𝓤 H A (ShrSlice ℓ κ u8 .own file (file-value file ∷ []))) (sem 𝓤 H A (readers ℓ′ κ .own (readerAt file at) (Reader′.lowered (readerAt file at) ∷ [])))
 reader-made 𝓤 H A W ℓ ℓ′ κ file at fits =
     qed W (‵ (ShrSlice ℓ κ u8 .own file (file-value file ∷ [])) ∷ []) ∵ nothing ! $ owned ! usize (Is usize) (uint-makes 𝓤 H A W w64) at _ (refl, fits) $
-    fjoin ! $ move ! (1 ∷ 0 ∷ []) $ fjoin ! $ by ! (own-shut 𝓤 H A W (Reader.the-type (lifetime ℓ′ κ)) (Reader′.the-laws (lifetime ℓ′ κ)) (file, (at, tt)))
+    fjoin ! $ move ! (1 ∷ 0 ∷ []) $ fjoin ! $ by ! (own-shut 𝓤 H A W (reader-type ℓ′ κ) (reader-laws ℓ′ κ) (file, (at, tt)))

@@ -17,7 +17,7 @@ use types.Run.{enter, alloc1, alloc0, params1, pass1, pass0, free1, free0}
 use denote.{RattleType.owns, Laws.Is, Plain.{uint-vals, uint-tells, uint-makes}, Builtin.{u8, usize}, Ref.RefT}
 use denote.{Signature.plain, Slice.{ShrSlice, Room, slice-vals, shr-slice-tells, shr-slice-copy}}
 use denote.Steps.{nothing, owned}
-use denote.Triple.{Call.calls-at, Entry.onEntry, Statement.Triple, Table.cited}
+use denote.Triple.{Call.calls-at, Clauses.Clauses, Entry.onEntry, Statement.{Contract, Triple}, Table.cited}
 use denote.Triple.Walked.{says, Stays, stay-none, stay-none-slice, walkOf, goes-none, goes-none-slice, Walks, ends-at}
 use denote.Triple.Walked.{walked}
 use denote.Exit.{yes}
@@ -44,6 +44,12 @@ abbrev stays : Stays (read.ended .signature .params) (read.ended .kept)
 stays = (stay-none-slice (0 ∷ []) tt (plain (λ _. u8)) yes, (stay-none (λ _. usize) yes, tt))
 
 module _ {M : Type 1} (𝓤 : URA M) (H : Heap 𝓤) (A : Atoms 𝓤) (W : Given 𝓤 H A) (mem : Memory → SProp 𝓤) (run : Routine → Fun 𝓤) where
+  abbrev clauses : Clauses 𝓤 read.ended
+  clauses = read.clauses 𝓤 H A mem run
+
+  abbrev Asks : Contract 𝓤
+  Asks = ToNext 𝓤 H A mem run
+
   module _ (κ : Lft) (q : Share) (file : RefT (List ℕ)) (at : ℕ) (room : Room u8 (length (file .now))) (fits : at < 2 ^ 64) where
     abbrev reader : Reader
     reader = readerAt file at
@@ -54,11 +60,15 @@ module _ {M : Type 1} (𝓤 : URA M) (H : Heap 𝓤) (A : Atoms 𝓤) (W : Given
     abbrev values : List Val × (List Val × Unit {0})
     values = (file-value file ∷ [], (vint w64 at ∷ [], tt))
 
-    abbrev bound : walkOf 𝓤 H A read.ended stays (read.clauses 𝓤 H A mem run) .Ghost
+    abbrev bound : walkOf 𝓤 H A read.ended stays clauses .Ghost
     bound = (((κ, tt), (q, tt), tt, (file, (at, tt)), values), tt)
 
     abbrev Post : Val → SProp 𝓤
-    Post = walkOf 𝓤 H A read.ended stays (read.clauses 𝓤 H A mem run) .post bound
+    Post = walkOf 𝓤 H A read.ended stays clauses .post bound
+
+    -- what is passed to `next`, of a reader in a local
+    abbrev passed : ℕ → Loan → Asks .Ghost
+    passed = next-passed 𝓤 H A mem run W κ q reader
 
     abbrev Own : Fml
     Own = ShrSlice (named 0) κ u8 .own file (file-value file ∷ [])
@@ -66,7 +76,7 @@ module _ {M : Type 1} (𝓤 : URA M) (H : Heap 𝓤) (A : Atoms 𝓤) (W : Given
     exits : Is nexts found (next-value found ∷ []) → ent 𝓤 (⋆ 𝓤 H A (‵ (flft κ q) ∷ ‵ Own ∷ [])) (Post (next-value found))
     exits is =
         qed W (‵ (flft κ q) ∷ ‵ Own ∷ []) ∵
-        suffices ! _ (ends-at 𝓤 H A read.ended stays (read.clauses 𝓤 H A mem run) W bound (next-value found) found (tt, (tt, tt)) (tt, (tt, tt))) $ says ! refl $
+        suffices ! _ (ends-at 𝓤 H A read.ended stays clauses W bound (next-value found) found (tt, (tt, tt)) (tt, (tt, tt))) $ says ! refl $
         nothing ! $ move ! (1 ∷ 0 ∷ []) $ join ! $ frame ! $ nothing ! $ owned ! usize (Is usize) (uint-makes 𝓤 H A W w64) at _ (refl, fits) $ fjoin ! $
         move ! (1 ∷ 0 ∷ []) $ fjoin ! $ frame ! $ owned ! nexts (Is nexts) (Struct.makes Next.the-type Next′.the-plain 𝓤 H A) found _ is $ done !
 
@@ -74,7 +84,7 @@ module _ {M : Type 1} (𝓤 : URA M) (H : Heap 𝓤) (A : Atoms 𝓤) (W : Given
     found-is : Is answers (found .answer) (answer-value (found .answer) ∷ []) → found .at < 2 ^ 64 → Is nexts found (next-value found ∷ [])
     found-is is fits-after = Struct.owes Next.the-type Next′.the-laws found (is, ((refl, fits-after), tt))
 
-    module _ (C : Calls 𝓤 H) (Λ : Loops 𝓤 H) (fm : FmC 𝓤 H (W .laws) C) (known : Triple 𝓤 (C #next) (ToNext 𝓤 H A mem run)) where
+    module _ (C : Calls 𝓤 H) (Λ : Loops 𝓤 H) (fm : FmC 𝓤 H (W .laws) C) (known : Triple 𝓤 (C #next) Asks) where
       walk : ent 𝓤 (onEntry 𝓤 H A read.signature (κ, tt) (q, tt) (file, (at, tt)) values) (WpFn 𝓤 H C Λ code.function (file-value file ∷ vint w64 at ∷ []) Post)
       walk =
           qed W ((‵ (flft κ q) ⊛ ‵ ftrue) ∷ ‵ (owns (ShrSlice (named 0) κ u8 ∷ usize ∷ []) (file, (at, tt)) values) ∷ []) ∵
@@ -90,28 +100,30 @@ module _ {M : Type 1} (𝓤 : URA M) (H : Heap 𝓤) (A : Atoms 𝓤) (W : Given
           move ! (1 ∷ []) $ use1 W (‵ (readers (named 1) κ .own reader (Reader′.lowered reader ∷ []))) (reader-made 𝓤 H A W (named 0) (named 1) κ file at fits) $
           -- [what the reader owns; the token; what file owns; _6; its end; .. _3; ..]: the local is lent
           move ! (9 ∷ 0 ∷ 1 ∷ []) $
-          use3 W (later (some (λ (loan : Loan). raw (ToNext 𝓤 H A mem run .pre (next-passed 𝓤 H A mem run W κ q reader l₃ loan)) ⊛ kept 𝓤 H A mem run W κ q reader l₃ loan)))
+          use3 W (later (some (λ (loan : Loan). raw (Asks .pre (passed l₃ loan)) ⊛ kept 𝓤 H A mem run W κ q reader l₃ loan)))
           (next-goes 𝓤 H A mem run W κ q reader l₃) $ await ! tt $ pick ! (λ loan. split ! $
           -- [what `next` asks; what the lender keeps; what file owns; _6; its end; _5; its end; _4; its end; _3's end; _2; ..]
-          calls-at ! fm (ToNext 𝓤 H A mem run) known (next-passed 𝓤 H A mem run W κ q reader l₃ loan) (and-then ! (load ! (from ! (stop !)) (look ! 5 refl)) (no-more !)) (λ u.
+          calls-at ! fm Asks known (passed l₃ loan) (and-then ! (load ! (from ! (stop !)) (look ! 5 refl)) (no-more !)) (λ u.
           use2 W (later (given (Back 𝓤 H A mem run W κ q reader l₃ u) (‵ (cell 𝓤 H A mem run W κ q reader l₃ (moved-on reader)) ⊛ ‵ (flft κ q))))
           (next-back 𝓤 H A mem run W κ q reader l₃ loan u) $ await ! tt $ learn ! (λ back.
+          let fits-after = position-fits (named 1) κ (moved-on reader) (back .1) in
+          let is = found-is (back .0 .1) fits-after in
           split ! $
           -- [_3; the token; what file owns; _6; its end; _5; its end; _4; its end; _3's end; _2; ..]: the answer, the position, the two together
           land ! (from ! (stop !))
           (init ! 7 refl (subst (λ (w : Val). Holds (hasTy Answer′.mir w) × WT w) (sym (back .0 .0)) (Enum.lawful Answer.the-type Answer′.the-laws 𝓤 H A W tt .typed (found .answer) _ (back .0 .1) .0))) $
           rewrite ! 7 (λ (w : Val). ‵ (fat fullShare Answer′.mir l₄ 0 w)) (back .0 .0) refl $
-          assigns ! (of-opd ! (load ! (from ! (fld ! refl (stop !))) (look-in ! 0 (sub ! 1 refl (whole !))))) (from ! (stop !)) (init ! 3 refl (tt, record { fits = position-fits (named 1) κ (moved-on reader) (back .1) })) $
+          assigns ! (of-opd ! (load ! (from ! (fld ! refl (stop !))) (look-in ! 0 (sub ! 1 refl (whole !))))) (from ! (stop !)) (init ! 3 refl (tt, record { fits = fits-after })) $
           assigns ! (agg ! (and-then ! (load ! (from ! (stop !)) (look ! 7 refl)) (and-then ! (load ! (from ! (stop !)) (look ! 3 refl)) (no-more !)))) (from ! (stop !))
-          (init ! 14 refl (Struct.lawful Next.the-type Next′.the-laws 𝓤 H A W .typed found _ (found-is (back .0 .1) (position-fits (named 1) κ (moved-on reader) (back .1))) .0)) $
+          (init ! 14 refl (Struct.lawful Next.the-type Next′.the-laws 𝓤 H A W .typed found _ is .0)) $
           returns ! (look ! 14 refl) $ forget ! 0 refl $ forget ! 3 refl $ forget ! 5 refl $ forget ! 7 refl $ forget ! 10 refl $ forget ! 12 refl $ forget ! 14 refl $
           keep ! (14 ∷ 15 ∷ 12 ∷ 13 ∷ 10 ∷ 11 ∷ 0 ∷ 9 ∷ 7 ∷ 8 ∷ 5 ∷ 6 ∷ 3 ∷ 4 ∷ 1 ∷ 2 ∷ []) $
-          free1 ! $ free1 ! $ free1 ! $ free1 ! $ free1 ! $ free1 ! $ free1 ! $ free0 ! $ by ! (exits (found-is (back .0 .1) (position-fits (named 1) κ (moved-on reader) (back .1))))))))))))))
+          free1 ! $ free1 ! $ free1 ! $ free1 ! $ free1 ! $ free1 ! $ free1 ! $ free0 ! $ by ! (exits is)))))))))))
 
-  walks : (C : Calls 𝓤 H) (Λ : Loops 𝓤 H) → FmC 𝓤 H (W .laws) C → Triple 𝓤 (C #next) (ToNext 𝓤 H A mem run)
-      → Walks 𝓤 H A read.ended stays (WpFn 𝓤 H C Λ code.function) (read.clauses 𝓤 H A mem run)
+  walks : (C : Calls 𝓤 H) (Λ : Loops 𝓤 H) → FmC 𝓤 H (W .laws) C → Triple 𝓤 (C #next) Asks
+      → Walks 𝓤 H A read.ended stays (WpFn 𝓤 H C Λ code.function) clauses
   walks C Λ fm known =
-      walked 𝓤 H A read.ended stays (read.clauses 𝓤 H A mem run) (WpFn 𝓤 H C Λ code.function) (λ κs. (slice-vals, (uint-vals w64, tt)))
+      walked 𝓤 H A read.ended stays clauses (WpFn 𝓤 H C Λ code.function) (λ κs. (slice-vals, (uint-vals w64, tt)))
       (λ κs. (shr-slice-tells (named 0) (κs .0) u8, (uint-tells w64, tt)))
       (λ κs qs bounds a g are. via 𝓤 _ (fst∗ 𝓤 _ (emp 𝓤)) (walk (κs .0) (qs .0) (a .0) (a .1 .0) (are .0 .0 .1) (are .1 .0 .1) C Λ fm known))
 

@@ -14,7 +14,7 @@ use types.Run.{look, init, forget, stop, from, load, lit, and-then, no-more, ass
 use types.Run.{params1, pass1, pass0, free1, free0}
 use denote.{RattleType.owns, Builtin.u8, Ref.RefT, Signature.plain}
 use denote.Slice.{ShrSlice, Room, slice-vals, shr-slice-tells, shr-slice-copy}
-use denote.Triple.Entry.{onEntry}
+use denote.Triple.{Clauses.Clauses, Entry.onEntry}
 use denote.Triple.Walked.{says, Stays, stay-none-slice, walkOf, goes-none-slice, Walks, ends-at, walked}
 use denote.Exit.{yes}
 use Rattle.schedule.specs.{Asked.readerAt, declared.Reader.Reader}
@@ -28,6 +28,9 @@ abbrev stays : Stays (new.ended .signature .params) (new.ended .kept)
 stays = (stay-none-slice (0 ∷ []) tt (plain (λ _. u8)) yes, tt)
 
 module _ {M : Type 1} (𝓤 : URA M) (H : Heap 𝓤) (A : Atoms 𝓤) (W : Given 𝓤 H A) (mem : Memory → SProp 𝓤) (run : Routine → Fun 𝓤) where
+  abbrev clauses : Clauses 𝓤 new.ended
+  clauses = new.clauses 𝓤 H A mem run
+
   module _ (κ : Lft) (q : Share) (file : RefT (List ℕ)) (room : Room u8 (length (file .now))) where
     abbrev made : Reader
     made = readerAt file 0
@@ -38,11 +41,11 @@ module _ {M : Type 1} (𝓤 : URA M) (H : Heap 𝓤) (A : Atoms 𝓤) (W : Given
     abbrev entry : SProp 𝓤
     entry = onEntry 𝓤 H A new.signature (κ, tt) (q, tt) (file, tt) values
 
-    abbrev bound : walkOf 𝓤 H A new.ended stays (new.clauses 𝓤 H A mem run) .Ghost
+    abbrev bound : walkOf 𝓤 H A new.ended stays clauses .Ghost
     bound = (((κ, tt), (q, tt), tt, (file, tt), values), tt)
 
     abbrev Post : Val → SProp 𝓤
-    Post = walkOf 𝓤 H A new.ended stays (new.clauses 𝓤 H A mem run) .post bound
+    Post = walkOf 𝓤 H A new.ended stays clauses .post bound
 
     abbrev Own : Fml
     Own = ShrSlice (named 0) κ u8 .own file (file-value file ∷ [])
@@ -50,7 +53,7 @@ module _ {M : Type 1} (𝓤 : URA M) (H : Heap 𝓤) (A : Atoms 𝓤) (W : Given
     exits : ent 𝓤 entry (Post (Reader′.lowered made))
     exits =
         qed W ((‵ (flft κ q) ⊛ ‵ ftrue) ∷ ‵ (owns (ShrSlice (named 0) κ u8 ∷ []) (file, tt) values) ∷ []) ∵
-        suffices ! _ (ends-at 𝓤 H A new.ended stays (new.clauses 𝓤 H A mem run) W bound (Reader′.lowered made) made (tt, tt) (tt, tt)) $ says ! refl $
+        suffices ! _ (ends-at 𝓤 H A new.ended stays clauses W bound (Reader′.lowered made) made (tt, tt) (tt, tt)) $ says ! refl $
         frame ! $ fsplit ! $ use1 W (‵ Own ⊛ ‵ Own) (shr-slice-copy 𝓤 H A W (named 0) κ u8 .twice file (file-value file ∷ [])) $ split ! $
         move ! (0 ∷ 2 ∷ []) $ fjoin ! $ frame ! $ by ! (reader-made 𝓤 H A W (named 0) (named 0) κ file 0 (lit< tt))
 
@@ -63,9 +66,9 @@ module _ {M : Type 1} (𝓤 : URA M) (H : Heap 𝓤) (A : Atoms 𝓤) (W : Given
         (init ! 2 refl (tt, ((tt, (record { fits = room .0 }, tt)), (record { fits = lit< tt }, tt)))) $
         returns ! (look ! 2 refl) $ forget ! 0 refl $ forget ! 2 refl $ move ! (2 ∷ 3 ∷ []) $ free1 ! $ free1 ! $ free0 ! $ by ! exits))
 
-  walks : (C : Calls 𝓤 H) (Λ : Loops 𝓤 H) → Walks 𝓤 H A new.ended stays (WpFn 𝓤 H C Λ code.function) (new.clauses 𝓤 H A mem run)
+  walks : (C : Calls 𝓤 H) (Λ : Loops 𝓤 H) → Walks 𝓤 H A new.ended stays (WpFn 𝓤 H C Λ code.function) clauses
   walks C Λ =
-      walked 𝓤 H A new.ended stays (new.clauses 𝓤 H A mem run) (WpFn 𝓤 H C Λ code.function) (λ κs. (slice-vals, tt))
+      walked 𝓤 H A new.ended stays clauses (WpFn 𝓤 H C Λ code.function) (λ κs. (slice-vals, tt))
       (λ κs. (shr-slice-tells (named 0) (κs .0) u8, tt))
       (λ κs qs bounds a g are. via 𝓤 _ (fst∗ 𝓤 _ (emp 𝓤)) (walk (κs .0) (qs .0) (a .0) (are .0 .0 .1) C Λ))
 

@@ -20,11 +20,11 @@ use types.SemTy.{Body}
 use denote.{RattleType.{RattleType, owns}, Laws.{Is, shows}, Memory.{mem, cellAt}, Plain.uint-makes, Builtin.usize}
 use denote.{Ref.{RefT, MutRef, ptr-vals, mut-tells}, Signature.{Slot, plain, namedLft}}
 use denote.{Steps.{opens, closes, owned, peeks, nothing}, Struct.{Rest.own-put, Steps.spelt}}
-use denote.Triple.{Call.calls-at, Entry.onEntry, Statement.Triple, Table.cited}
+use denote.Triple.{Call.calls-at, Clauses.Clauses, Entry.onEntry, Statement.{Contract, Triple}, Table.cited}
 use denote.Triple.Walked.{says, Stays, stay-ref, walkOf, goes-ref, Walks, ends-at, walked}
 use Rattle.schedule.specs.{Asked.readerAt, declared.{Next.Next, Reader.Reader}}
-use Rattle.schedule.proofs.Readers.{lifetime, readers, nexts, answers, next-value, next-tells, answer-value}
-use Rattle.schedule.proofs.Readers.{answer-is, next-fits, file-room, position-fits}
+use Rattle.schedule.proofs.Readers.{lifetime, readers, reader-type, reader-laws, nexts, answers, next-value}
+use Rattle.schedule.proofs.Readers.{next-tells, answer-value, answer-is, next-fits, file-room, position-fits}
 use Rattle.schedule.proofs.Result.{Comes, comes}
 use Rattle.schedule.proofs.EventCall.{standing, EventAt, event-passed, event-asks, event-ensures, event-says}
 use Rattle.schedule.proofs.{Closing.{rules, calls, loops, framed, shown}, event_at.Symbol.name as #event-at}
@@ -50,6 +50,12 @@ abbrev stays : Stays (next.ended .signature .params) (next.ended .kept)
 stays = (stay-ref (0 ∷ []) tt behind, tt)
 
 module _ {M : Type 1} (𝓤 : URA M) (H : Heap 𝓤) (A : Atoms 𝓤) (W : Given 𝓤 H A) (at-mem : Memory → SProp 𝓤) (run : Routine → Fun 𝓤) where
+  abbrev clauses : Clauses 𝓤 next.ended
+  clauses = next.clauses 𝓤 H A at-mem run
+
+  abbrev Event : Contract 𝓤
+  Event = EventAt 𝓤 H A at-mem run
+
   module _ (κ κ′ : Lft) (q q′ : Share) (bounds : AllOutlive 2 (next.signature .outlives) (κ, (κ′, tt))) (b o : ℕ) (γ : GName) (reader : Reader) where
     abbrev B : RattleType
     B = readers (named 1) κ′
@@ -66,11 +72,15 @@ module _ {M : Type 1} (𝓤 : URA M) (H : Heap 𝓤) (A : Atoms 𝓤) (W : Given
     abbrev values : List Val × Unit {0}
     values = (vptr b o ∷ [], tt)
 
-    abbrev bound : walkOf 𝓤 H A next.ended stays (next.clauses 𝓤 H A at-mem run) .Ghost
+    abbrev bound : walkOf 𝓤 H A next.ended stays clauses .Ghost
     bound = (((κ, (κ′, tt)), (q, (q′, tt)), bounds, self, values), tt)
 
     abbrev Post : Val → SProp 𝓤
-    Post = walkOf 𝓤 H A next.ended stays (next.clauses 𝓤 H A at-mem run) .post bound
+    Post = walkOf 𝓤 H A next.ended stays clauses .post bound
+
+    -- what is passed to `event_at`
+    abbrev passed : Event .Ghost
+    passed = event-passed 𝓤 H A at-mem run (named 1) κ′ q′ reader
 
     abbrev Own : Reader → Fml
     Own r = B .own r (Reader′.lowered r ∷ [])
@@ -83,17 +93,17 @@ module _ {M : Type 1} (𝓤 : URA M) (H : Heap 𝓤) (A : Atoms 𝓤) (W : Given
     moves : found .at < 2 ^ 64 → ent 𝓤 (sem 𝓤 H A (Own reader)) (sem 𝓤 H A (Own after))
     moves fits =
         qed W (‵ (Own reader) ∷ []) ∵ owned ! usize (Is usize) (uint-makes 𝓤 H A W w64) (found .at) _ (refl, fits) $ move ! (1 ∷ 0 ∷ []) $
-        by ! (own-put 𝓤 H A W (Reader.the-type (lifetime (named 1) κ′)) (Reader′.the-laws (lifetime (named 1) κ′)) 1 (reader .file, (reader .at, tt)) (found .at) (Reader′.lowered reader))
+        by ! (own-put 𝓤 H A W (reader-type (named 1) κ′) (reader-laws (named 1) κ′) 1 (reader .file, (reader .at, tt)) (found .at) (Reader′.lowered reader))
 
     exits : Is answers (found .answer) (answer-value (found .answer) ∷ []) → ent 𝓤 (⋆ 𝓤 H A left) (Post (answer-value (found .answer)))
     exits is =
         qed W left ∵
-        suffices ! _ (ends-at 𝓤 H A next.ended stays (next.clauses 𝓤 H A at-mem run) W bound (answer-value (found .answer)) (found .answer) (after, tt) (tt, tt)) $
+        suffices ! _ (ends-at 𝓤 H A next.ended stays clauses W bound (answer-value (found .answer)) (found .answer) (after, tt) (tt, tt)) $
         says ! (record { answered = refl; same-file = refl; moved = refl }) $
         nothing ! $ move ! (4 ∷ 0 ∷ []) $ join ! $ move ! (3 ∷ 0 ∷ []) $ join ! $ frame ! $ feqI ! (List Val) (vptr b o ∷ []) (vptr b o ∷ []) refl $ fjoin3 ! $
         nothing ! $ move ! (1 ∷ 0 ∷ []) $ fjoin ! $ frame ! $ owned ! answers (Is answers) (Enum.makes Answer.the-type Answer′.the-plain 𝓤 H A) (found .answer) _ is $ done !
 
-    module _ (C : Calls 𝓤 H) (Λ : Loops 𝓤 H) (fm : FmC 𝓤 H (W .laws) C) (known : Triple 𝓤 (C #event-at) (EventAt 𝓤 H A at-mem run)) where
+    module _ (C : Calls 𝓤 H) (Λ : Loops 𝓤 H) (fm : FmC 𝓤 H (W .laws) C) (known : Triple 𝓤 (C #event-at) Event) where
       walk : ent 𝓤 (onEntry 𝓤 H A next.signature (κ, (κ′, tt)) (q, (q′, tt)) self values) (WpFn 𝓤 H C Λ code.function (vptr b o ∷ []) Post)
       walk =
           qed W ((‵ (flft κ q) ⊛ ‵ (flft κ′ q′) ⊛ ‵ ftrue) ∷ ‵ (owns (MutRef (named 0) κ B ∷ []) self values) ∷ []) ∵ enter ! C Λ code.function (vptr b o ∷ []) _ $
@@ -102,12 +112,12 @@ module _ {M : Type 1} (𝓤 : URA M) (H : Heap 𝓤) (A : Atoms 𝓤) (W : Given
           -- [_4; its end; .. room for _0; its end; the tokens; what self owns]: the borrow is opened
           move ! (11 ∷ []) $ fsplit ! $ fsplit3 ! $ drop ! $ move ! (13 ∷ []) $ split ! $ move ! (2 ∷ 3 ∷ 0 ∷ []) $
           opens ! tt B {h = reader} b o (λ held.
-          spelt ! B (Is B) (shows 𝓤 H A B) (Struct.vals (Reader.the-type (lifetime (named 1) κ′)) (Reader′.the-laws (lifetime (named 1) κ′)))
-          (Struct.tells (Reader.the-type (lifetime (named 1) κ′)) (Reader′.the-laws (lifetime (named 1) κ′))) fullShare reader held b o $
+          spelt ! B (Is B) (shows 𝓤 H A B) (Struct.vals (reader-type (named 1) κ′) (reader-laws (named 1) κ′))
+          (Struct.tells (reader-type (named 1) κ′) (reader-laws (named 1) κ′)) fullShare reader held b o $
           -- the cell, at the type that a body has of it, and what the reader owns, twice
           use1 W (‵ (fat fullShare (Reader′.mir erased) b o (Reader′.lowered reader))) (W .laws .raw-at fullShare (Reader′.mir erased) b o (Reader′.lowered reader)) $
           move ! (1 ∷ []) $ peeks ! B (Is B) (shows 𝓤 H A B) reader (Reader′.lowered reader ∷ []) (λ is.
-          use1 W (‵ (Own reader) ⊛ ‵ (Own reader)) (Struct.copy (Reader.the-type (lifetime (named 1) κ′)) (Reader′.the-copy (lifetime (named 1) κ′)) 𝓤 H A W .twice reader (Reader′.lowered reader ∷ [])) $
+          use1 W (‵ (Own reader) ⊛ ‵ (Own reader)) (Struct.copy (reader-type (named 1) κ′) (Reader′.the-copy (lifetime (named 1) κ′)) 𝓤 H A W .twice reader (Reader′.lowered reader ∷ [])) $
           split ! $ move ! (2 ∷ []) $
           -- [the cell; what the reader owns, twice; the open borrow; obs; auth; 'a's token; nothing; _4; its end; .. room for _0; its end]
           assigns ! (of-opd ! (load ! (from ! (hop ! (look ! 14 refl) (fld ! refl (stop !)))) (look-in ! 0 (sub ! 0 refl (whole !))))) (from ! (stop !))
@@ -115,9 +125,9 @@ module _ {M : Type 1} (𝓤 : URA M) (H : Heap 𝓤) (A : Atoms 𝓤) (W : Given
           assigns ! (of-opd ! (load ! (from ! (hop ! (look ! 14 refl) (fld ! refl (stop !)))) (look-in ! 0 (sub ! 1 refl (whole !))))) (from ! (stop !))
           (init ! 8 refl (tt, record { fits = position-fits (named 1) κ′ reader is })) $
           move ! (6 ∷ []) $ split ! $ move ! (3 ∷ 0 ∷ []) $
-          use2 W (raw (EventAt 𝓤 H A at-mem run .pre (event-passed 𝓤 H A at-mem run (named 1) κ′ q′ reader))) (event-asks 𝓤 H A at-mem run (named 1) κ′ q′ reader W) $
+          use2 W (raw (Event .pre passed)) (event-asks 𝓤 H A at-mem run (named 1) κ′ q′ reader W) $
           -- [what `event_at` asks; nothing; the cell; what the reader owns; the open borrow; obs; auth; nothing; _4; its end; ..]
-          calls-at ! fm (EventAt 𝓤 H A at-mem run) known (event-passed 𝓤 H A at-mem run (named 1) κ′ q′ reader)
+          calls-at ! fm Event known passed
           (and-then ! (load ! (from ! (stop !)) (look ! 10 refl)) (and-then ! (load ! (from ! (stop !)) (look ! 8 refl)) (no-more !))) (λ u.
           use1 W (later (given (Comes nexts next-value next-tells u found) (‵ (flft κ′ q′) ⊛ ‵ ftrue)))
           (comes nexts next-value next-tells 𝓤 H A W (‵ (flft κ′ q′) ⊛ ‵ ftrue) found (event-ensures 𝓤 H A at-mem run (named 1) κ′ q′ reader) (event-says 𝓤 H A at-mem run (named 1) κ′ q′ reader) u) $
@@ -139,10 +149,10 @@ module _ {M : Type 1} (𝓤 : URA M) (H : Heap 𝓤) (A : Atoms 𝓤) (W : Given
           keep ! (15 ∷ 16 ∷ 13 ∷ 14 ∷ 11 ∷ 12 ∷ 9 ∷ 10 ∷ 7 ∷ 8 ∷ 0 ∷ 1 ∷ 2 ∷ 3 ∷ []) $ free1 ! $ free1 ! $ free1 ! $ free1 ! $ free1 ! $ free0 ! $
           by ! (exits (answer-is found (came .1))))))))))))
 
-  walks : (C : Calls 𝓤 H) (Λ : Loops 𝓤 H) → FmC 𝓤 H (W .laws) C → Triple 𝓤 (C #event-at) (EventAt 𝓤 H A at-mem run)
-      → Walks 𝓤 H A next.ended stays (WpFn 𝓤 H C Λ code.function) (next.clauses 𝓤 H A at-mem run)
+  walks : (C : Calls 𝓤 H) (Λ : Loops 𝓤 H) → FmC 𝓤 H (W .laws) C → Triple 𝓤 (C #event-at) Event
+      → Walks 𝓤 H A next.ended stays (WpFn 𝓤 H C Λ code.function) clauses
   walks C Λ fm known =
-      walked 𝓤 H A next.ended stays (next.clauses 𝓤 H A at-mem run) (WpFn 𝓤 H C Λ code.function) (λ κs. (ptr-vals, tt))
+      walked 𝓤 H A next.ended stays clauses (WpFn 𝓤 H C Λ code.function) (λ κs. (ptr-vals, tt))
       (λ κs. (mut-tells (named 0) (κs .0) (readers (named 1) (κs .1 .0)), tt))
       (λ κs qs bounds a g are.
       via 𝓤 _ (fst∗ 𝓤 _ (emp 𝓤))
