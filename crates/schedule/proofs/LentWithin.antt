@@ -1,8 +1,10 @@
--- A value in a local, lent by `&mut` for one call within a lifetime 'a that outlives the call, and back. It knows nothing of the value.
---     lent        x lies in the local ∗ 'a's token  ⊢ ⇛ a loan within 'a: its `&mut`, its token, half of 'a's token, and what the lender keeps
+-- A value in a local, lent by `&mut` for one call within a lifetime 'a that outlives the call, and back. It knows
+-- nothing of the value.
+--     lent        x lies in the local ∗ 'a's token
+--                 ⊢ ⇛ a loan within 'a: its `&mut`, its token, half of 'a's token, and what the lender keeps
 --     comes-back  y is the last value ∗ the two tokens ∗ what the lender keeps  ⊢ ⇛ y lies in the local ∗ 'a's token
--- The loan's lifetime is a new ν met with 'a, so 'a outlives it. 'a's token is cut in two: one half makes the loan's token, the other is 'a's for the
--- callee.
+-- The loan's lifetime is a new ν met with 'a, so 'a outlives it. 'a's token is cut in two: one half makes the loan's
+-- token, the other is 'a's for the callee.
 -- Assumes `Given`.
 use mathlib.Core.List.{[], _∷_}
 use Prim.Native.Nat.{ℕ}
@@ -56,26 +58,27 @@ module _ {M : Type 1} (𝓤 : URA M) (H : Heap 𝓤) (A : Atoms 𝓤) (W : Given
       ⊛ ‵ (flent (ν ∷ κ) (Body (mem B) local 0 δ)))))
       (lends-ref 𝓤 H A W B ℓ (ν ∷ κ) x local 0) $ await ! tt $ pick ! (λ δ. split ! $
       -- [the `&mut`; the lender's part; ν's token; 'a's token]
-      move ! (3 ∷ []) $ use1 W (‵ (flft κ (loaned κ q)) ⊛ ‵ (flft κ (spared κ q))) (W .lfts .lft-split κ q) $ split ! $
-      move ! (4 ∷ 0 ∷ []) $
-      use2 W (‵ (flft (ν ∷ κ) (loaned κ q)) ⊛ raw (Rest 𝓤 H A W ν (loaned κ q))) (within-token 𝓤 H A W ν κ (loaned κ q))
-      $ split ! $
+      move ! (3 ∷ []) $ use1 W (‵ (flft κ (loaned κ q)) ⊛ ‵ (flft κ (spared κ q))) (W .lfts .lft-split κ q) $
+      split ! $ move ! (4 ∷ 0 ∷ []) $
+      use2 W (‵ (flft (ν ∷ κ) (loaned κ q)) ⊛ raw (Rest 𝓤 H A W ν (loaned κ q)))
+      (within-token 𝓤 H A W ν κ (loaned κ q)) $ split ! $
       -- [the loan's token; the way back to ν's; 'a's token beside; the `&mut`; the lender's part]
-      at-once ! $ show ! (λ (loan : Loan). mean 𝓤 H A (handed ℓ x loan)) (ν, δ) $ move ! (3 ∷ 0 ∷ 2 ∷ 4 ∷ 1 ∷ []) $
-      frame ! $ frame ! $ frame ! $ done !))
+      at-once ! $ show ! (λ (loan : Loan). mean 𝓤 H A (handed ℓ x loan)) (ν, δ) $
+      move ! (3 ∷ 0 ∷ 2 ∷ 4 ∷ 1 ∷ []) $ frame ! $ frame ! $ frame ! $ done !))
 
   pub comes-back : (loan : Loan) (y : B .Denot)
-      → ent 𝓤 (sep 𝓤 (A .res (loan .1) (B .coded .code y))
+      → ent 𝓤
+      (sep 𝓤 (A .res (loan .1) (B .coded .code y))
       (sep 𝓤 (A .lft (during κ q loan) (loaned κ q)) (sep 𝓤 (A .lft κ (spared κ q)) (mean 𝓤 H A (keeps loan)))))
       (H .⇛ (sep 𝓤 (sem 𝓤 H A (mem B .lies y local 0)) (A .lft κ q)))
   comes-back loan y =
-      qed W (‵ (fres (loan .1) (B .coded .code y)) ∷ ‵ (flft (during κ q loan) (loaned κ q)) ∷ ‵ (flft κ (spared κ q)) ∷
-      keeps loan ∷ []) ∵ updating ! $
-      move ! (3 ∷ []) $ split ! $ move ! (3 ∷ 1 ∷ []) $
+      qed W
+      (‵ (fres (loan .1) (B .coded .code y)) ∷ ‵ (flft (during κ q loan) (loaned κ q)) ∷ ‵ (flft κ (spared κ q))
+      ∷ keeps loan ∷ []) ∵
+      updating ! $ move ! (3 ∷ []) $ split ! $ move ! (3 ∷ 1 ∷ []) $
       use2 W (later (‵ (fdead (during κ q loan)) ⊛ ‵ (flft κ (loaned κ q))))
       (within-end 𝓤 H A W (loan .0) κ (loaned κ q)) $ await ! tt $ split ! $
       -- [the loan is over; the one half of 'a's token; the lender's part; the last value; the other half]
       move ! (1 ∷ 4 ∷ []) $ use2 W (‵ (flft κ q)) (W .lfts .lft-join κ q) $ move ! (1 ∷ 2 ∷ 3 ∷ []) $
       use3 W (later (‵ (mem B .lies y local 0))) (ref-back 𝓤 H A W B (during κ q loan) (loan .1) y local 0) $
-      await ! tt $
-      at-once ! $ frame ! $ done !
+      await ! tt $ at-once ! $ frame ! $ done !

@@ -1,5 +1,5 @@
--- A reader as the walks over it see it: its row at a lifetime, the machine values of a reader, of an answer and of an answer with its position, and what
--- is known of their parts.
+-- A reader as the walks over it see it: its row at a lifetime, the machine values of a reader, of an answer and of an
+-- answer with its position, and what is known of their parts.
 -- Assumes nothing; `reader-made` takes `Given`.
 use mathlib.Core.{Path.refl, List.{List, [], _∷_}}
 use Prim.Native.Nat.{ℕ, _<_, _^_}
@@ -77,9 +77,12 @@ module _ (ℓ : Lifetime) (κ : Lft) (reader : Reader) (is : Is (readers ℓ κ)
 
 -- ---- a reader is made of what its file owns and of a position that fits
 
-pub reader-made : {M : Type 1} (𝓤 : URA M) (H : Heap 𝓤) (A : Atoms 𝓤) (W : Given 𝓤 H A) (ℓ ℓ′ : Lifetime) (κ : Lft) (file : RefT (List ℕ)) (at : ℕ)
-    → at < 2 ^ 64
-    → ent 𝓤 (sem 𝓤 H A (ShrSlice ℓ κ u8 .own file (file-value file ∷ []))) (sem 𝓤 H A (readers ℓ′ κ .own (readerAt file at) (Reader′.lowered (readerAt file at) ∷ [])))
+pub reader-made : {M : Type 1} (𝓤 : URA M) (H : Heap 𝓤) (A : Atoms 𝓤) (W : Given 𝓤 H A)
+    (ℓ ℓ′ : Lifetime) (κ : Lft) (file : RefT (List ℕ)) (at : ℕ) → at < 2 ^ 64
+    → ent 𝓤 (sem 𝓤 H A (ShrSlice ℓ κ u8 .own file (file-value file ∷ [])))
+    (sem 𝓤 H A (readers ℓ′ κ .own (readerAt file at) (Reader′.lowered (readerAt file at) ∷ [])))
 reader-made 𝓤 H A W ℓ ℓ′ κ file at fits =
-    qed W (‵ (ShrSlice ℓ κ u8 .own file (file-value file ∷ [])) ∷ []) ∵ nothing ! $ owned ! usize (Is usize) (uint-makes 𝓤 H A W w64) at _ (refl, fits) $
-    fjoin ! $ move ! (1 ∷ 0 ∷ []) $ fjoin ! $ by ! (own-shut 𝓤 H A W (reader-type ℓ′ κ) (reader-laws ℓ′ κ) (file, (at, tt)))
+    qed W (‵ (ShrSlice ℓ κ u8 .own file (file-value file ∷ [])) ∷ []) ∵
+    nothing ! $ owned ! usize (Is usize) (uint-makes 𝓤 H A W w64) at _ (refl, fits) $ fjoin ! $
+    move ! (1 ∷ 0 ∷ []) $ fjoin ! $
+    by ! (own-shut 𝓤 H A W (reader-type ℓ′ κ) (reader-laws ℓ′ κ) (file, (at, tt)))

@@ -1,6 +1,6 @@
--- A walk by hand. The borrow of the reader is opened; its file and its position go to `event_at`; the position that comes back is stored in the reader,
--- and the borrow is closed. A reader is Copy: what it owns is had twice, once for the call and once for the reader as it is left. Of `event_at` only its
--- contract is used.
+-- A walk by hand. The borrow of the reader is opened; its file and its position go to `event_at`; the position that
+-- comes back is stored in the reader, and the borrow is closed. A reader is Copy: what it owns is had twice, once for
+-- the call and once for the reader as it is left. Of `event_at` only its contract is used.
 use mathlib.Core.{Path.{refl, sym, subst}, List.{List, [], _∷_}}
 use Prim.Native.Nat.{ℕ, _<_, _^_}
 use lib.Dec.{T as Holds}
@@ -49,14 +49,16 @@ behind = plain (λ κs. Reader.the-row (namedLft 2 1 tt κs))
 abbrev stays : Stays (next.ended .signature .params) (next.ended .kept)
 stays = (stay-ref (0 ∷ []) tt behind, tt)
 
-module _ {M : Type 1} (𝓤 : URA M) (H : Heap 𝓤) (A : Atoms 𝓤) (W : Given 𝓤 H A) (at-mem : Memory → SProp 𝓤) (run : Routine → Fun 𝓤) where
+module _ {M : Type 1} (𝓤 : URA M) (H : Heap 𝓤) (A : Atoms 𝓤) (W : Given 𝓤 H A)
+    (at-mem : Memory → SProp 𝓤) (run : Routine → Fun 𝓤) where
   abbrev clauses : Clauses 𝓤 next.ended
   clauses = next.clauses 𝓤 H A at-mem run
 
   abbrev Event : Contract 𝓤
   Event = EventAt 𝓤 H A at-mem run
 
-  module _ (κ κ′ : Lft) (q q′ : Share) (bounds : AllOutlive 2 (next.signature .outlives) (κ, (κ′, tt))) (b o : ℕ) (γ : GName) (reader : Reader) where
+  module _ (κ κ′ : Lft) (q q′ : Share) (bounds : AllOutlive 2 (next.signature .outlives) (κ, (κ′, tt)))
+      (b o : ℕ) (γ : GName) (reader : Reader) where
     abbrev B : RattleType
     B = readers (named 1) κ′
 
@@ -92,21 +94,30 @@ module _ {M : Type 1} (𝓤 : URA M) (H : Heap 𝓤) (A : Atoms 𝓤) (W : Given
     -- what the reader owns with another position
     moves : found .at < 2 ^ 64 → ent 𝓤 (sem 𝓤 H A (Own reader)) (sem 𝓤 H A (Own after))
     moves fits =
-        qed W (‵ (Own reader) ∷ []) ∵ owned ! usize (Is usize) (uint-makes 𝓤 H A W w64) (found .at) _ (refl, fits) $ move ! (1 ∷ 0 ∷ []) $
-        by ! (own-put 𝓤 H A W (reader-type (named 1) κ′) (reader-laws (named 1) κ′) 1 (reader .file, (reader .at, tt)) (found .at) (Reader′.lowered reader))
+        qed W (‵ (Own reader) ∷ []) ∵
+        owned ! usize (Is usize) (uint-makes 𝓤 H A W w64) (found .at) _ (refl, fits) $ move ! (1 ∷ 0 ∷ []) $
+        by ! (own-put 𝓤 H A W (reader-type (named 1) κ′) (reader-laws (named 1) κ′) 1 (reader .file, (reader .at, tt))
+        (found .at) (Reader′.lowered reader))
 
-    exits : Is answers (found .answer) (answer-value (found .answer) ∷ []) → ent 𝓤 (⋆ 𝓤 H A left) (Post (answer-value (found .answer)))
+    exits : Is answers (found .answer) (answer-value (found .answer) ∷ [])
+        → ent 𝓤 (⋆ 𝓤 H A left) (Post (answer-value (found .answer)))
     exits is =
         qed W left ∵
-        suffices ! _ (ends-at 𝓤 H A next.ended stays clauses W bound (answer-value (found .answer)) (found .answer) (after, tt) (tt, tt)) $
+        suffices ! _ (ends-at 𝓤 H A next.ended stays clauses W bound (answer-value (found .answer)) (found .answer)
+        (after, tt) (tt, tt)) $
         says ! (record { answered = refl; same-file = refl; moved = refl }) $
-        nothing ! $ move ! (4 ∷ 0 ∷ []) $ join ! $ move ! (3 ∷ 0 ∷ []) $ join ! $ frame ! $ feqI ! (List Val) (vptr b o ∷ []) (vptr b o ∷ []) refl $ fjoin3 ! $
-        nothing ! $ move ! (1 ∷ 0 ∷ []) $ fjoin ! $ frame ! $ owned ! answers (Is answers) (Enum.makes Answer.the-type Answer′.the-plain 𝓤 H A) (found .answer) _ is $ done !
+        nothing ! $ move ! (4 ∷ 0 ∷ []) $ join ! $ move ! (3 ∷ 0 ∷ []) $ join ! $ frame ! $
+        feqI ! (List Val) (vptr b o ∷ []) (vptr b o ∷ []) refl $ fjoin3 ! $
+        nothing ! $ move ! (1 ∷ 0 ∷ []) $ fjoin ! $ frame ! $
+        owned ! answers (Is answers) (Enum.makes Answer.the-type Answer′.the-plain 𝓤 H A) (found .answer) _ is $ done !
 
     module _ (C : Calls 𝓤 H) (Λ : Loops 𝓤 H) (fm : FmC 𝓤 H (W .laws) C) (known : Triple 𝓤 (C #event-at) Event) where
-      walk : ent 𝓤 (onEntry 𝓤 H A next.signature (κ, (κ′, tt)) (q, (q′, tt)) self values) (WpFn 𝓤 H C Λ code.function (vptr b o ∷ []) Post)
+      walk :
+          ent 𝓤 (onEntry 𝓤 H A next.signature (κ, (κ′, tt)) (q, (q′, tt)) self values)
+          (WpFn 𝓤 H C Λ code.function (vptr b o ∷ []) Post)
       walk =
-          qed W ((‵ (flft κ q) ⊛ ‵ (flft κ′ q′) ⊛ ‵ ftrue) ∷ ‵ (owns (MutRef (named 0) κ B ∷ []) self values) ∷ []) ∵ enter ! C Λ code.function (vptr b o ∷ []) _ $
+          qed W ((‵ (flft κ q) ⊛ ‵ (flft κ′ q′) ⊛ ‵ ftrue) ∷ ‵ (owns (MutRef (named 0) κ B ∷ []) self values) ∷ []) ∵
+          enter ! C Λ code.function (vptr b o ∷ []) _ $
           alloc1 ! (λ l₀. alloc1 ! (λ l₁. alloc1 ! (λ l₂. alloc1 ! (λ l₃. alloc1 ! (λ l₄. alloc0 ! $
           params1 ! $ pass1 ! (init ! 6 refl (tt, tt)) $ pass0 ! $
           -- [_4; its end; .. room for _0; its end; the tokens; what self owns]: the borrow is opened
@@ -115,38 +126,54 @@ module _ {M : Type 1} (𝓤 : URA M) (H : Heap 𝓤) (A : Atoms 𝓤) (W : Given
           spelt ! B (Is B) (shows 𝓤 H A B) (Struct.vals (reader-type (named 1) κ′) (reader-laws (named 1) κ′))
           (Struct.tells (reader-type (named 1) κ′) (reader-laws (named 1) κ′)) fullShare reader held b o $
           -- the cell, at the type that a body has of it, and what the reader owns, twice
-          use1 W (‵ (fat fullShare (Reader′.mir erased) b o (Reader′.lowered reader))) (W .laws .raw-at fullShare (Reader′.mir erased) b o (Reader′.lowered reader)) $
+          use1 W (‵ (fat fullShare (Reader′.mir erased) b o (Reader′.lowered reader)))
+          (W .laws .raw-at fullShare (Reader′.mir erased) b o (Reader′.lowered reader)) $
           move ! (1 ∷ []) $ peeks ! B (Is B) (shows 𝓤 H A B) reader (Reader′.lowered reader ∷ []) (λ is.
-          use1 W (‵ (Own reader) ⊛ ‵ (Own reader)) (Struct.copy (reader-type (named 1) κ′) (Reader′.the-copy (lifetime (named 1) κ′)) 𝓤 H A W .twice reader (Reader′.lowered reader ∷ [])) $
+          use1 W (‵ (Own reader) ⊛ ‵ (Own reader))
+          (Struct.copy (reader-type (named 1) κ′) (Reader′.the-copy (lifetime (named 1) κ′)) 𝓤 H A W .twice reader
+          (Reader′.lowered reader ∷ [])) $
           split ! $ move ! (2 ∷ []) $
-          -- [the cell; what the reader owns, twice; the open borrow; obs; auth; 'a's token; nothing; _4; its end; .. room for _0; its end]
-          assigns ! (of-opd ! (load ! (from ! (hop ! (look ! 14 refl) (fld ! refl (stop !)))) (look-in ! 0 (sub ! 0 refl (whole !))))) (from ! (stop !))
+          -- [the cell; what the reader owns, twice; the open borrow; obs; auth; 'a's token; nothing; _4; its end; ..]
+          assigns ! (of-opd ! (load ! (from ! (hop ! (look ! 14 refl) (fld ! refl (stop !))))
+          (look-in ! 0 (sub ! 0 refl (whole !))))) (from ! (stop !))
           (init ! 10 refl (tt, (tt, (record { fits = file-room (named 1) κ′ reader is .0 }, tt)))) $
-          assigns ! (of-opd ! (load ! (from ! (hop ! (look ! 14 refl) (fld ! refl (stop !)))) (look-in ! 0 (sub ! 1 refl (whole !))))) (from ! (stop !))
+          assigns ! (of-opd ! (load ! (from ! (hop ! (look ! 14 refl) (fld ! refl (stop !))))
+          (look-in ! 0 (sub ! 1 refl (whole !))))) (from ! (stop !))
           (init ! 8 refl (tt, record { fits = position-fits (named 1) κ′ reader is })) $
           move ! (6 ∷ []) $ split ! $ move ! (3 ∷ 0 ∷ []) $
           use2 W (raw (Event .pre passed)) (event-asks 𝓤 H A at-mem run (named 1) κ′ q′ reader W) $
-          -- [what `event_at` asks; nothing; the cell; what the reader owns; the open borrow; obs; auth; nothing; _4; its end; ..]
+          -- [what `event_at` asks; nothing; the cell; what the reader owns; the open borrow; obs; auth; nothing; ..]
           calls-at ! fm Event known passed
-          (and-then ! (load ! (from ! (stop !)) (look ! 10 refl)) (and-then ! (load ! (from ! (stop !)) (look ! 8 refl)) (no-more !))) (λ u.
+          (and-then ! (load ! (from ! (stop !)) (look ! 10 refl))
+          (and-then ! (load ! (from ! (stop !)) (look ! 8 refl)) (no-more !))) (λ u.
           use1 W (later (given (Comes nexts next-value next-tells u found) (‵ (flft κ′ q′) ⊛ ‵ ftrue)))
-          (comes nexts next-value next-tells 𝓤 H A W (‵ (flft κ′ q′) ⊛ ‵ ftrue) found (event-ensures 𝓤 H A at-mem run (named 1) κ′ q′ reader) (event-says 𝓤 H A at-mem run (named 1) κ′ q′ reader) u) $
+          (comes nexts next-value next-tells 𝓤 H A W (‵ (flft κ′ q′) ⊛ ‵ ftrue) found
+          (event-ensures 𝓤 H A at-mem run (named 1) κ′ q′ reader)
+          (event-says 𝓤 H A at-mem run (named 1) κ′ q′ reader) u) $
           await ! tt $ learn ! (λ came.
           land ! (from ! (stop !))
-          (init ! 12 refl (subst (λ (w : Val). Holds (hasTy Next′.mir w) × WT w) (sym (came .0)) (Struct.lawful Next.the-type Next′.the-laws 𝓤 H A W .typed found _ (came .1) .0))) $
+          (init ! 12 refl (subst (λ (w : Val). Holds (hasTy Next′.mir w) × WT w) (sym (came .0))
+          (Struct.lawful Next.the-type Next′.the-laws 𝓤 H A W .typed found _ (came .1) .0))) $
           rewrite ! 12 (λ (w : Val). ‵ (fat fullShare Next′.mir l₂ 0 w)) (came .0) refl $
           -- the position into the reader, the answer into the result
-          assigns ! (of-opd ! (load ! (from ! (fld ! refl (stop !))) (look-in ! 12 (sub ! 1 refl (whole !))))) (from ! (hop ! (look ! 14 refl) (fld ! refl (stop !))))
+          assigns ! (of-opd ! (load ! (from ! (fld ! refl (stop !))) (look-in ! 12 (sub ! 1 refl (whole !)))))
+          (from ! (hop ! (look ! 14 refl) (fld ! refl (stop !))))
           (store-in ! 2 (sub ! 1 refl (whole !)) (tt, record { fits = next-fits found (came .1) })) $
-          assigns ! (of-opd ! (load ! (from ! (fld ! refl (stop !))) (look-in ! 12 (sub ! 0 refl (whole !))))) (from ! (stop !))
-          (init ! 16 refl (Enum.lawful Answer.the-type Answer′.the-laws 𝓤 H A W tt .typed (found .answer) _ (answer-is found (came .1)) .0)) $
+          assigns ! (of-opd ! (load ! (from ! (fld ! refl (stop !))) (look-in ! 12 (sub ! 0 refl (whole !)))))
+          (from ! (stop !))
+          (init ! 16 refl (Enum.lawful Answer.the-type Answer′.the-laws 𝓤 H A W tt .typed (found .answer) _
+          (answer-is found (came .1)) .0)) $
           split ! $ move ! (4 ∷ []) $ use1 W (‵ (Own after)) (moves (next-fits found (came .1))) $
-          -- [what the reader owns as it is left; 'a's token; nothing; nothing; the cell; the open borrow; obs; auth; nothing; _4; ..]: the borrow is closed
-          move ! (4 ∷ []) $ use1 W (‵ (cellAt fullShare (B .mir) (Reader′.lowered after ∷ []) b o)) (W .laws .at-raw fullShare (Reader′.mir erased) b o (Reader′.lowered after)) $
+          -- [what the reader owns as it is left; 'a's token; nothing; nothing; the cell; the open borrow; obs; auth;
+          -- ..]: the borrow is closed
+          move ! (4 ∷ []) $ use1 W (‵ (cellAt fullShare (B .mir) (Reader′.lowered after ∷ []) b o))
+          (W .laws .at-raw fullShare (Reader′.mir erased) b o (Reader′.lowered after)) $
           move ! (0 ∷ 1 ∷ 5 ∷ 6 ∷ 7 ∷ []) $ closes ! tt B after (Reader′.lowered after ∷ []) b o $
           -- [obs; the borrow; its token; 'a's token; nothing; nothing; nothing; _4; its end; _3; ..]
-          returns ! (look ! 15 refl) $ forget ! 7 refl $ forget ! 9 refl $ forget ! 11 refl $ forget ! 13 refl $ forget ! 15 refl $
-          keep ! (15 ∷ 16 ∷ 13 ∷ 14 ∷ 11 ∷ 12 ∷ 9 ∷ 10 ∷ 7 ∷ 8 ∷ 0 ∷ 1 ∷ 2 ∷ 3 ∷ []) $ free1 ! $ free1 ! $ free1 ! $ free1 ! $ free1 ! $ free0 ! $
+          returns ! (look ! 15 refl) $
+          forget ! 7 refl $ forget ! 9 refl $ forget ! 11 refl $ forget ! 13 refl $ forget ! 15 refl $
+          keep ! (15 ∷ 16 ∷ 13 ∷ 14 ∷ 11 ∷ 12 ∷ 9 ∷ 10 ∷ 7 ∷ 8 ∷ 0 ∷ 1 ∷ 2 ∷ 3 ∷ []) $
+          free1 ! $ free1 ! $ free1 ! $ free1 ! $ free1 ! $ free0 ! $
           by ! (exits (answer-is found (came .1))))))))))))
 
   walks : (C : Calls 𝓤 H) (Λ : Loops 𝓤 H) → FmC 𝓤 H (W .laws) C → Triple 𝓤 (C #event-at) Event
@@ -156,13 +183,17 @@ module _ {M : Type 1} (𝓤 : URA M) (H : Heap 𝓤) (A : Atoms 𝓤) (W : Given
       (λ κs. (mut-tells (named 0) (κs .0) (readers (named 1) (κs .1 .0)), tt))
       (λ κs qs bounds a g are.
       via 𝓤 _ (fst∗ 𝓤 _ (emp 𝓤))
-      (walk (κs .0) (κs .1 .0) (qs .0) (qs .1 .0) bounds (a .0 .ptr .0) (a .0 .ptr .1) (a .0 .name) (a .0 .now) C Λ fm known))
+      (walk (κs .0) (κs .1 .0) (qs .0) (qs .1 .0) bounds (a .0 .ptr .0) (a .0 .ptr .1) (a .0 .name) (a .0 .now)
+      C Λ fm known))
 
 pub next-spec : {M : Type 1} → statement M
 unfolding code.routine
 next-spec 𝓤 H 𝓜 𝓖 𝓡 =
     let W : Given 𝓤 H (𝓖 .A) = rules 𝓤 H 𝓜 𝓖 𝓡 code.env in
-    shown 𝓤 H 𝓜 𝓖 𝓡 code.env next.ended stays (goes-ref 𝓤 H (𝓖 .A) W 2 0 tt behind, tt) (next.clauses 𝓤 H (𝓖 .A) (𝓜 .mem) (𝓡 .run)) #next code.function
+    shown 𝓤 H 𝓜 𝓖 𝓡 code.env next.ended stays (goes-ref 𝓤 H (𝓖 .A) W 2 0 tt behind, tt)
+    (next.clauses 𝓤 H (𝓖 .A) (𝓜 .mem) (𝓡 .run)) #next code.function
     (code.unfolded 𝓤 H 𝓜 𝓡)
-    (walks 𝓤 H (𝓖 .A) W (𝓜 .mem) (𝓡 .run) (calls 𝓤 H 𝓜 𝓖 𝓡 code.env) (loops 𝓤 H 𝓜 𝓖 𝓡 code.env) (framed 𝓤 H 𝓜 𝓖 𝓡 code.env)
-    (cited 𝓤 H (EventAt 𝓤 H (𝓖 .A) (𝓜 .mem) (𝓡 .run)) 𝓜 𝓡 code.env #event-at event.routine code.calls-schedule·event-at (event-met.met 𝓤 H 𝓜 𝓖 𝓡)))
+    (walks 𝓤 H (𝓖 .A) W (𝓜 .mem) (𝓡 .run) (calls 𝓤 H 𝓜 𝓖 𝓡 code.env) (loops 𝓤 H 𝓜 𝓖 𝓡 code.env)
+    (framed 𝓤 H 𝓜 𝓖 𝓡 code.env)
+    (cited 𝓤 H (EventAt 𝓤 H (𝓖 .A) (𝓜 .mem) (𝓡 .run)) 𝓜 𝓡 code.env #event-at event.routine code.calls-schedule·event-at
+    (event-met.met 𝓤 H 𝓜 𝓖 𝓡)))
