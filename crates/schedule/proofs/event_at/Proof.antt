@@ -1,16 +1,15 @@
-use mathlib.Core.{Path.{_≡_, ap, subst, _∙_}, Bool.{true, false}}
-use Prim.Native.Nat.{ℕ, _≤_, _<_}
+use mathlib.Core.{Path.{_≡_, ap, _∙_}, Bool.{true, false}}
 use native.Mathlib.Omega.{arith}
 use lib.Dec.{leb}
 use borrow.Author.Tests.{le-leb, lt-leb, lt-ltb, le-ltb}
-use Rattle.file.specs.File.{countOf, codeBad, eventAt, eventCases, readBy, reading}
+use Rattle.file.specs.File.{countOf, eventAt, eventCases, readBy, reading}
 use Rattle.file.proofs.Headers.{Header, passed, reading-refused, reading-passed}
 use Rattle.machine.{specs.Refusals.first, proofs.Tests.tests}
 use Rattle.schedule.specs.Next.{nextOf}
 use Rattle.schedule.proofs.event_at.Statement.{statement}
 use Rattle.schedule.proofs.event_at.Tie as tie
 
--- the file and the position, where the header is accepted and where each test has gone one way
+-- the start, seen from where the header is accepted, and that from where the position is within the count
 abbrev start : tie.After-enum-told → tie.Start
 start c = c .before .before .before .before
 
@@ -27,19 +26,12 @@ read c =
     let a = start c .args in
     reading-passed (a .file .now) _ (c .before .before .header .ensures) (a .at) (c .enum-told .given .1)
 
--- what the two tests show, of the file's own count and code
+-- what the test of the position shows, of the file's own count
 past : (c : tie.Then1) → let a = start (c .before .before) .args in leb (countOf (a .file .now)) (a .at) ≡ true
-past c =
-    let at = start (c .before .before) .args .at in
-    le-leb _ _ (subst (λ (count : ℕ). count ≤ at) (c .before .word .ensures) (c .if1 .taken))
+past c = rw (← c .before .word .ensures) (le-leb _ _ (c .if1 .taken))
 
 within : (c : tie.Else1) → let a = start (counted c) .args in leb (countOf (a .file .now)) (a .at) ≡ false
-within c =
-    let at = start (counted c) .args .at in
-    lt-leb _ _ (subst (λ (count : ℕ). at < count) (c .before .word .ensures) (c .if1 .left))
-
-coded : (c : tie.Else2) → let a = start (counted (c .before .before)) .args in codeBad (a .file .now) (a .at) ≡ false
-coded c = le-ltb _ _ (c .if2 .left)
+within c = rw (← c .before .word .ensures) (lt-leb _ _ (c .if1 .left))
 
 word-requires : tie.Need-word-requires
 word-requires c κs = omega (arith, good c .long)
@@ -71,7 +63,7 @@ returns-4 : tie.Need-returns-4
 returns-4 c =
     let second = c .before .before in
     let inside = second .before .before in
-    rw (read (counted inside), within inside, coded second, c .kind .ensures, c .before .word2 .ensures)
+    rw (read (counted inside), within inside, le-ltb _ _ (second .if2 .left), c .kind .ensures, c .before .word2 .ensures)
 
 pub event-at-spec : {M : Type 1} → statement M
 event-at-spec =

@@ -18,24 +18,6 @@ worded c = c .before .before .before .before
 kept-2 : (c : tie.After-put-word2) → length (c .put-word2 .last .0) ≡ length (start (worded c) .args .room .now)
 kept-2 c = c .put-word2 .kept .0 ∙ simp length-set (kept (worded c))
 
-slice-write-room-2 : tie.Need-slice-write-room-2
-slice-write-room-2 c = simp length-set (omega arith)
-
-slice-write-room-3 : tie.Need-slice-write-room-3
-slice-write-room-3 c = simp length-set (omega arith)
-
-slice-write-room-4 : tie.Need-slice-write-room-4
-slice-write-room-4 c = simp length-set (omega arith)
-
-slice-write-room-5 : tie.Need-slice-write-room-5
-slice-write-room-5 c = simp length-set (omega arith)
-
-slice-write-room-6 : tie.Need-slice-write-room-6
-slice-write-room-6 c = simp length-set (omega arith)
-
-put-word-requires : tie.Need-put-word-requires
-put-word-requires c κs = simp length-set (omega arith)
-
 slice-write-room-7 : tie.Need-slice-write-room-7
 slice-write-room-7 c = omega (arith, kept (c .before .before))
 
@@ -53,6 +35,7 @@ returns c =
 
 pub put-header-spec : {M : Type 1} → statement M
 put-header-spec =
-    tie.close (tie.spec (λ c. search tests) slice-write-room-2 slice-write-room-3 slice-write-room-4
-    slice-write-room-5 slice-write-room-6 (λ c. search tests) put-word-requires slice-write-room-7
-    put-word-requires-2 same-length returns)
+    tie.close (tie.spec (λ c. search tests) (λ c. simp length-set (omega arith))
+    (λ c. simp length-set (omega arith)) (λ c. simp length-set (omega arith))
+    (λ c. simp length-set (omega arith)) (λ c. simp length-set (omega arith)) (λ c. search tests)
+    (λ c κs. simp length-set (omega arith)) slice-write-room-7 put-word-requires-2 same-length returns)

@@ -23,8 +23,7 @@ use denote.Triple.Walked.{says, Stays, stay-none, stay-none-slice, walkOf, goes-
 use denote.Triple.Walked.{walked}
 use denote.Exit.{yes}
 use Rattle.schedule.specs.{Asked.readerAt, declared.{Next.Next, Reader.Reader}}
-use Rattle.schedule.proofs.Readers.{readers, nexts, answers, next-value, answer-value, file-value, position-fits}
-use Rattle.schedule.proofs.Readers.{reader-made}
+use Rattle.schedule.proofs.Readers.{readers, nexts, next-value, file-value, position-fits, reader-made}
 use Rattle.schedule.proofs.{LentWithin.Loan, EventCall.standing}
 use Rattle.schedule.proofs.NextCall.{moved-on, ToNext, cell, kept, next-passed, next-goes, Back, next-back}
 use Rattle.schedule.proofs.{Closing.{rules, calls, loops, framed, shown}, Reader.next.Symbol.name as #next}
@@ -89,9 +88,12 @@ module _ {M : Type 1} (𝓤 : URA M) (H : Heap 𝓤) (A : Atoms 𝓤) (W : Given
         owned ! nexts (Is nexts) (Struct.makes Next.the-type Next′.the-plain 𝓤 H A) found _ is $ done !
 
     -- the answer that came and the position that fits are the two parts of what is returned
-    found-is : Is answers (found .answer) (answer-value (found .answer) ∷ []) → found .at < 2 ^ 64
-        → Is nexts found (next-value found ∷ [])
-    found-is is fits-after = Struct.owes Next.the-type Next′.the-laws found (is, ((refl, fits-after), tt))
+    module _ (local : ℕ) (u : Val) (back : Back 𝓤 H A mem run W κ q reader local u) where
+      fits-after : found .at < 2 ^ 64
+      fits-after = position-fits (named 1) κ (moved-on reader) (back .1)
+
+      found-is : Is nexts found (next-value found ∷ [])
+      found-is = Struct.owes Next.the-type Next′.the-laws found (back .0 .1, ((refl, fits-after), tt))
 
     module _ (C : Calls 𝓤 H) (Λ : Loops 𝓤 H) (fm : FmC 𝓤 H (W .laws) C) (known : Triple 𝓤 (C #next) Asks) where
       walk :
@@ -127,8 +129,6 @@ module _ {M : Type 1} (𝓤 : URA M) (H : Heap 𝓤) (A : Atoms 𝓤) (W : Given
           use2 W (later (given (Back 𝓤 H A mem run W κ q reader l₃ u)
           (‵ (cell 𝓤 H A mem run W κ q reader l₃ (moved-on reader)) ⊛ ‵ (flft κ q))))
           (next-back 𝓤 H A mem run W κ q reader l₃ loan u) $ await ! tt $ learn ! (λ back.
-          let fits-after = position-fits (named 1) κ (moved-on reader) (back .1) in
-          let is = found-is (back .0 .1) fits-after in
           split ! $
           -- [_3; the token; what file owns; _6; its end; _5; its end; _4; its end; _3's end; _2; ..]: the answer, the
           -- position, the two together
@@ -137,15 +137,15 @@ module _ {M : Type 1} (𝓤 : URA M) (H : Heap 𝓤) (A : Atoms 𝓤) (W : Given
           (Enum.lawful Answer.the-type Answer′.the-laws 𝓤 H A W tt .typed (found .answer) _ (back .0 .1) .0))) $
           rewrite ! 7 (λ (w : Val). ‵ (fat fullShare Answer′.mir l₄ 0 w)) (back .0 .0) refl $
           assigns ! (of-opd ! (load ! (from ! (fld ! refl (stop !))) (look-in ! 0 (sub ! 1 refl (whole !)))))
-          (from ! (stop !)) (init ! 3 refl (tt, record { fits = fits-after })) $
+          (from ! (stop !)) (init ! 3 refl (tt, record { fits = fits-after l₃ u back })) $
           assigns ! (agg ! (and-then ! (load ! (from ! (stop !)) (look ! 7 refl))
           (and-then ! (load ! (from ! (stop !)) (look ! 3 refl)) (no-more !)))) (from ! (stop !))
-          (init ! 14 refl (Struct.lawful Next.the-type Next′.the-laws 𝓤 H A W .typed found _ is .0)) $
+          (init ! 14 refl (Struct.lawful Next.the-type Next′.the-laws 𝓤 H A W .typed found _ (found-is l₃ u back) .0)) $
           returns ! (look ! 14 refl) $
           forget ! 0 refl $ forget ! 3 refl $ forget ! 5 refl $ forget ! 7 refl $ forget ! 10 refl $ forget ! 12 refl $
           forget ! 14 refl $
           keep ! (14 ∷ 15 ∷ 12 ∷ 13 ∷ 10 ∷ 11 ∷ 0 ∷ 9 ∷ 7 ∷ 8 ∷ 5 ∷ 6 ∷ 3 ∷ 4 ∷ 1 ∷ 2 ∷ []) $
-          free1 ! $ free1 ! $ free1 ! $ free1 ! $ free1 ! $ free1 ! $ free1 ! $ free0 ! $ by ! (exits is)))))))))))
+          free1 ! $ free1 ! $ free1 ! $ free1 ! $ free1 ! $ free1 ! $ free1 ! $ free0 ! $ by ! (exits (found-is l₃ u back))))))))))))
 
   walks : (C : Calls 𝓤 H) (Λ : Loops 𝓤 H) → FmC 𝓤 H (W .laws) C → Triple 𝓤 (C #next) Asks
       → Walks 𝓤 H A read.ended stays (WpFn 𝓤 H C Λ code.function) clauses
