@@ -1,6 +1,7 @@
 -- `listing_of` hands back the part that `list` filled: no file is refused for want of room, and the text is the whole
 -- listing.
-use mathlib.Core.Path.{sym, ap, _∙_}
+use mathlib.Core.{Path.{sym, ap, _∙_}, List.List}
+use Prim.Native.Nat.{ℕ}
 use lib.Seq.{length-take-le}
 use denote.Ref.{now}
 use Rattle.printed.{specs.Listing.listing, proofs.Longer.part-listed}
@@ -9,32 +10,36 @@ use Rattle.gridlist.proofs.{Whole.{never-refused, text-whole}, listing_
 use borrow.Author.Needs.{needs}
 use Rattle.gridlist.proofs.listing_of.Tie as tie
 
+-- the start, the file that is listed and the room, seen from the call of `list`
+abbrev start : tie.After-list → tie.Start
+start c = c .before .before .before .before .before
+
+abbrev file : tie.After-list → List ℕ
+file c = now (c .before .before .first .result)
+
+abbrev room : tie.After-list → List ℕ
+room c = now (start c .args .room)
+
 returns : tie.Need-returns
 returns c =
-    let start = c .before .before .before .before .before .before .before .before .before .before in
-    let file = now (c .before .before .before .before .before .before .before .first .result) in
-    let lists = c .before .before .before .before .before .list in
-    let is = rw (c .before .enum-told .given .1) at (lists .ensures) in
-    absurd (never-refused file (now (start .args .room)) (lists .last .1 .0) (start .pre .1) _ is)
+    let called = c .before .before .before .before .before in
+    let is = rw (c .before .enum-told .given .1) at (called .list .ensures) in
+    absurd (never-refused (file called) (room called) (called .list .last .1 .0) (start called .pre .1) _ is)
 
 slice-aggregate-result-2 : tie.Need-slice-aggregate-result-2
 slice-aggregate-result-2 c =
-    let start = c .before .before .before .before .before .before .before .before .before .before .before in
-    let file = now (c .before .before .before .before .before .before .before .before .first .result) in
-    let lists = c .before .before .before .before .before .before .list in
-    let is = rw (c .before .before .listed .given .1) at (lists .ensures) in
-    let within = text-within file (now (start .args .room)) (lists .last .1 .0) _ is in
-    sym (length-take-le _ (lists .last .1 .0) (search (needs, within)))
+    let called = c .before .before .before .before .before .before in
+    let after = called .list .last .1 .0 in
+    let is = rw (c .before .before .listed .given .1) at (called .list .ensures) in
+    sym (length-take-le _ after (search (needs, text-within (file called) (room called) after _ is)))
 
 returns-2 : tie.Need-returns-2
 returns-2 c =
-    let start = c .before .before .before .before .before .before .before .before .before .before .before in
-    let first = c .before .before .before .before .before .before .before .before .first in
-    let lists = c .before .before .before .before .before .before .list in
-    let is = rw (c .before .before .listed .given .1) at (lists .ensures) in
-    let whole = text-whole (now (first .result)) (now (start .args .room)) (lists .last .1 .0) (start .pre .1) _ is in
-    let text = whole ∙ ap listing (first .ensures) in
-    (text, λ all read. text ∙ ap listing read ∙ part-listed all _ (start .pre .0))
+    let called = c .before .before .before .before .before .before in
+    let is = rw (c .before .before .listed .given .1) at (called .list .ensures) in
+    let whole = text-whole (file called) (room called) (called .list .last .1 .0) (start called .pre .1) _ is in
+    let text = whole ∙ ap listing (called .before .before .first .ensures) in
+    (text, λ all read. text ∙ ap listing read ∙ part-listed all _ (start called .pre .0))
 
 pub listing-of-spec : {M : Type 1} → statement M
 listing-of-spec =

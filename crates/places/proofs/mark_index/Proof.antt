@@ -1,24 +1,24 @@
 -- The index of a mark is the definition's, by the width of a block.
 use mathlib.Core.Path.{refl}
+use Prim.Native.Nat.{_≤_}
 use native.Mathlib.Omega.{arith}
 use Rattle.machine.proofs.{Limits.{limits, width-most}, Tests.tests}
 use Rattle.places.proofs.Counts.{product-fits, product-and-sum-fit, blocks-most}
 use Rattle.places.proofs.mark_index.Statement.{statement}
 use Rattle.places.proofs.mark_index.Tie as tie
 
-mul-result : tie.Need-mul-result
-mul-result c =
+small : (c : tie.After-width) → (c .before .args .block ≤ 256) × (c .before .args .place ≤ 256) × (c .width .result ≤ 256)
+small c =
     let limit = limits (c .before .args .s) (c .before .pre .0) in
     let few = blocks-most _ limit in
     let wide = width-most _ limit in
-    product-fits _ _ (omega arith) (omega arith)
+    (omega arith, omega arith, omega arith)
+
+mul-result : tie.Need-mul-result
+mul-result c = product-fits _ _ (small c .0) (small c .2)
 
 add-result : tie.Need-add-result
-add-result c =
-    let limit = limits (c .before .args .s) (c .before .pre .0) in
-    let few = blocks-most _ limit in
-    let wide = width-most _ limit in
-    product-and-sum-fit _ _ (omega arith) (omega arith) _ (omega arith)
+add-result c = product-and-sum-fit _ _ (small c .0) (small c .2) _ (small c .1)
 
 returns : tie.Need-returns
 returns c = rw (c .width .ensures) refl

@@ -1,19 +1,18 @@
 -- The number of a place is the definition's: the difference does not fall below 0 (`half-below`).
-use Prim.Native.Nat.{_-_}
+use Prim.Native.Nat.{_-_, _≤_}
 use native.Mathlib.Omega.{arith}
 use Rattle.machine.{specs.Places.placeNumber, proofs.{Limits.limits, Triangle.half-below, Tests.tests}}
 use Rattle.places.proofs.{Counts.{product-small, product-fits}, place_number.Statement.statement}
 use Rattle.places.proofs.place_number.Tie as tie
 
+small : (c : tie.Start) → c .args .s .k ≤ 16
+small c = limits (c .args .s) (c .pre .0) .k-most
+
 mul-result : tie.Need-mul-result
-mul-result c =
-    let limit = limits (c .before .args .s) (c .before .pre .0) in
-    product-fits _ _ (omega arith) (omega arith)
+mul-result c = let k = small (c .before) in product-fits _ _ (omega arith) (omega arith)
 
 half-requires : tie.Need-half-requires
-half-requires c κs =
-    let limit = limits (c .before .args .s) (c .before .pre .0) in
-    omega arith
+half-requires c κs = omega (arith, small (c .before))
 
 sub-result : tie.Need-sub-result
 sub-result c = rw (c .half .ensures) (half-below _ _ (omega arith))
@@ -21,7 +20,7 @@ sub-result c = rw (c .half .ensures) (half-below _ _ (omega arith))
 add-result : tie.Need-add-result
 add-result c =
     let a = c .before .before .args in
-    let limit = limits (a .s) (c .before .before .pre .0) in
+    let k = small (c .before .before) in
     omega (arith, product-small (a .r) (a .s .k - a .less) (omega arith) (omega arith))
 
 returns : tie.Need-returns
