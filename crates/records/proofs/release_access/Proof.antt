@@ -2,9 +2,8 @@
 use mathlib.Core.Path.{_∙_}
 use Prim.Native.Nat.{_+_, _≤_}
 use native.Mathlib.Omega.{arith}
-use Rattle.machine.proofs.Tests.{tests}
-use Rattle.records.proofs.States.{holds-near, releases-block, releases-edge}
-use Rattle.records.proofs.release_access.Statement.{statement}
+use Rattle.machine.proofs.{Arriving.{release-clears, release-nothing}, Tests.tests}
+use Rattle.records.proofs.{States.holds-near, release_access.Statement.statement}
 use Rattle.records.proofs.release_access.Tie as tie
 
 -- the row and the column are those of a place, so their sum fits
@@ -26,13 +25,13 @@ returns : tie.Need-returns
 returns c =
     let known = c .before .before .before .before in
     let a = known .before .before .args in
-    rw (known .state .given .1) (c .own-mark .ensures ∙ releases-block (a .s) _ _ (a .task .0) (omega arith))
+    rw (known .state .given .1) (c .own-mark .ensures ∙ release-clears (a .s) _ _ (a .task .0) (omega arith))
 
 returns-4 : tie.Need-returns-4
 returns-4 c =
     let known = c .before .before .before in
     let a = known .before .before .args in
-    rw (known .state .given .1) (releases-edge (a .s) _ _ (a .task .0) (omega arith))
+    rw (known .state .given .1) (release-nothing (a .s) _ _ (a .task .0) (omega arith))
 
 pub release-access-spec : {M : Type 1} → statement M
 release-access-spec =
