@@ -1,36 +1,35 @@
 -- What `listing::list` leaves in a room that is long enough for any file: the whole listing, and never a refusal.
-use mathlib.Core.Path.{_≡_, refl, ap, _∙_}
-use mathlib.Core.List.{List, _++_}
+use mathlib.Core.{Path.{_≡_, ap}, List.{List, _++_}}
 use Prim.Native.Nat.{ℕ, _≤_}
-use native.Mathlib.Nat.{le-trans}
-use native.Mathlib.Omega.{arith}
-use lib.ListN.{length, take, drop}
-use lib.Seq.{take-append-seam}
+use native.Mathlib.{Nat.le-trans, Omega.arith}
+use lib.{ListN.{length, take, drop}, Seq.take-append-seam}
 use borrow.Author.Tests.{le-ltb}
 use Rattle.file.specs.File.{Written, writtenOf}
-use Rattle.printed.specs.Listing.{listing}
-use Rattle.machine.specs.declared.Refusal.{Refusal}
-use Rattle.machine.specs.declared.Writing.{Writing}
-use Rattle.machine.specs.declared.Writing.the-variants.{Wrote, Refused}
-use Rattle.printed.specs.Listed.{listed}
+use Rattle.printed.specs.{Listing.listing, Listed.listed}
+use Rattle.machine.specs.declared.{Refusal.Refusal, Writing.{Writing, the-variants.{Wrote, Refused}}}
 use Rattle.listing.proofs.Contract.{room-always}
 
 module _ (file room after : List ℕ) (long : 507949 ≤ length room) where
   -- the listing stands at the start of the room, and its length is answered
+  abbrev filled : List ℕ
+  filled = listing file ++ drop (length (listing file)) room
+
   written : (answer : Writing) → writtenOf answer after ≡ listed file room
-      → writtenOf answer after ≡ writtenOf (Wrote (length (listing file))) (listing file ++ drop (length (listing file)) room)
-  written answer is = rw (le-ltb _ _ (le-trans (room-always file) long)) at is
+      → (answer ≡ Wrote (length (listing file))) × (after ≡ filled)
+  written answer is =
+      let whole : writtenOf answer after ≡ writtenOf (Wrote (length (listing file))) filled =
+      rw (le-ltb _ _ (le-trans (room-always file) long)) at is in
+      (ap (λ (l : Written). l .answer) whole, ap (λ (l : Written). l .room) whole)
 
   pub never-refused : (why : Refusal) → writtenOf (Refused why) after ≡ listed file room → ⊥
   never-refused why is =
-      let answer : Refused why ≡ Wrote (length (listing file)) = ap (λ (l : Written). l .answer) (written (Refused why) is) in
+      let answer = written (Refused why) is .0 in
       let z : _≡_ {A = ℕ} 0 1 = cc in
       omega arith
 
   -- as many bytes as are answered are the listing
   pub text-whole : (count : ℕ) → writtenOf (Wrote count) after ≡ listed file room → take count after ≡ listing file
   text-whole count is =
-      let answer : Wrote count ≡ Wrote (length (listing file)) = ap (λ (l : Written). l .answer) (written (Wrote count) is) in
-      let same : count ≡ length (listing file) = cc in
-      let whole : after ≡ listing file ++ drop (length (listing file)) room = ap (λ (l : Written). l .room) (written (Wrote count) is) in
-      rw (same, whole) (take-append-seam (listing file) (drop (length (listing file)) room))
+      let whole = written (Wrote count) is in
+      let same : count ≡ length (listing file) = cc (whole .0) in
+      rw (same, whole .1) (take-append-seam (listing file) (drop (length (listing file)) room))

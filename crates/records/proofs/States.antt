@@ -1,24 +1,13 @@
--- Laws of one state: what it is not, by its tag; when it is in range; and what its release touches.
-use mathlib.Core.Path.{_≡_, refl}
-use mathlib.Core.Bool.{false}
-use mathlib.Core.Logic.{_⊎_, ⊎-elim}
+-- Laws of one state: what it is not, by its tag, and when it is in range.
+use mathlib.Core.{Path.{_≡_, refl}, Bool.false, Logic.{_⊎_, ⊎-elim}}
 use Prim.Native.Nat.{ℕ, _+_, _≤_, _<_}
-use native.Mathlib.Nat.{le-trans}
-use native.Mathlib.Omega.{arith}
+use native.Mathlib.{Nat.le-trans, Omega.arith}
 use borrow.Author.Tests.{le-leb, lt-leb}
 use lib.Dec.{T, leb→le}
 use denote.Enum.Declared.{tagOf}
-use Rattle.machine.specs.Settings.{permitted, own}
-use Rattle.machine.specs.Places.{blockNumber}
-use Rattle.machine.specs.Records.{isIdle, isSeeking, isHolding, pointInRange, stateInRange}
-use Rattle.machine.specs.Turn.{releaseAccess}
-use Rattle.machine.specs.declared.Settings.{Settings}
-use Rattle.machine.specs.declared.Point.{Point}
-use Rattle.machine.specs.declared.State.{State}
-use Rattle.machine.specs.declared.State.the-variants.{Idle, Seeking, Holding}
-use Rattle.machine.specs.declared.Access.the-variants.{NoAccess, MarkWritten}
-use Rattle.machine.proofs.State.{the-type}
-use Rattle.machine.proofs.Limits.{limits}
+use Rattle.machine.specs.{Settings.permitted, Records.{isIdle, isSeeking, isHolding, pointInRange, stateInRange}}
+use Rattle.machine.specs.declared.{Settings.Settings, Point.Point, State.{State, the-variants.{Idle, Seeking, Holding}}}
+use Rattle.machine.proofs.{State.the-type, Limits.limits}
 
 -- ---- what a state is not: where its tag is one of the other two
 
@@ -57,10 +46,3 @@ module _ (s : Settings) (r c : ℕ) where
   -- and under permitted settings near enough for a sum in 8 bits
   pub holds-near : (state : State) → T (permitted s) → T (stateInRange s state) → state ≡ Holding r c → r + c + 1 ≤ 16
   holds-near state ok good is = le-trans (holds-on-place state good is) (limits s ok .k-most)
-
-  -- a release clears the own mark of a block, and touches nothing on the edge
-  pub releases-block : (p : ℕ) → r + c + 2 ≤ s .k → MarkWritten (blockNumber s r c) (own s p) 0 ≡ releaseAccess s p (Holding r c)
-  releases-block p on = rw (le-leb (r + c + 2) (s .k) on)
-
-  pub releases-edge : (p : ℕ) → s .k < r + c + 2 → NoAccess ≡ releaseAccess s p (Holding r c)
-  releases-edge p off = rw (lt-leb (r + c + 2) (s .k) off)

@@ -1,17 +1,12 @@
 -- The bytes of a schedule, one event after the other, and put into a room.
-use mathlib.Core.Path.{_≡_, refl, sym, ap, _∙_}
-use mathlib.Core.List.{List, [], _∷_, _++_, append-assoc}
+use mathlib.Core.{Path.{_≡_, refl, sym, ap, _∙_}, List.{List, [], _∷_, _++_, append-assoc}}
 use Prim.Native.Nat.{ℕ, _+_, _*_, _≤_, _<_}
-use native.Mathlib.Nat.{le-of-lt, zero-add}
-use native.Mathlib.Numerals.{add-one}
-use native.Mathlib.Omega.{arith}
-use lib.ListN.{length, take, drop, set, getD, length-set}
-use lib.Seq.{take-suc, length-take-le, sets, length-sets, sets-eq}
+use native.Mathlib.{Nat.{le-of-lt, zero-add}, Numerals.add-one, Omega.arith}
+use lib.{ListN.{length, take, drop, set, getD, length-set}, Seq.{take-suc, length-take-le, sets, length-sets, sets-eq}}
 use Rattle.file.specs.File.{wordBytes, eventBytes, eventsBytes, headerBytes, fileBytes, fileLength}
-use Rattle.machine.specs.declared.Settings.{Settings}
 use Rattle.file.proofs.Lengths.{length-events, length-file}
-use Rattle.text.specs.Put.{put}
-use Rattle.text.proofs.Putting.{length-put, put-byte, put-append}
+use Rattle.machine.specs.declared.Settings.{Settings}
+use Rattle.text.{specs.Put.put, proofs.Putting.{length-put, put-byte, put-append}}
 
 -- the events of two lists
 pub events-append : (a b : List ℕ) → eventsBytes (a ++ b) ≡ eventsBytes a ++ eventsBytes b
@@ -26,24 +21,29 @@ events-more numbers i l = rw (add-one, take-suc numbers i 0 l, events-append (ta
 -- ---- put into a room
 
 -- stored one by one, and put at once
-pub stores-put : (room : List ℕ) (at : ℕ) (bytes : List ℕ) → at + length bytes ≤ length room → sets room at bytes ≡ put room at bytes
+pub stores-put : (room : List ℕ) (at : ℕ) (bytes : List ℕ) → at + length bytes ≤ length room
+    → sets room at bytes ≡ put room at bytes
 unfolding put
-stores-put room at bytes fits = sets-eq bytes room at fits ∙ append-assoc (take at room) bytes (drop (at + length bytes) room)
+stores-put room at bytes fits =
+    sets-eq bytes room at fits ∙ append-assoc (take at room) bytes (drop (at + length bytes) room)
 
 -- one byte, then the rest behind it
 pub put-behind : (room : List ℕ) (at byte : ℕ) (bytes : List ℕ) → at + 1 + length bytes ≤ length room
     → put (set room at byte) (at + 1) bytes ≡ put room at (byte ∷ bytes)
 put-behind room at byte bytes fits =
-    ap (λ (l : List ℕ). put l (at + 1) bytes) (put-byte room at byte (omega arith)) ∙ put-append room at (byte ∷ []) bytes (at + 1) refl fits
+    ap (λ (l : List ℕ). put l (at + 1) bytes) (put-byte room at byte (omega arith))
+    ∙ put-append room at (byte ∷ []) bytes (at + 1) refl fits
 
 -- the header is six bytes, a word, a byte and a word
 pub header-put : (room : List ℕ) (s : Settings) (count : ℕ) (worded ended : List ℕ) → 11 ≤ length room
-    → worded ≡ put (sets room 0 (71 ∷ 82 ∷ 83 ∷ 1 ∷ 0 ∷ s .mode ∷ [])) 6 (wordBytes (s .n)) → ended ≡ put (set worded 8 (s .k)) 9 (wordBytes count)
+    → worded ≡ put (sets room 0 (71 ∷ 82 ∷ 83 ∷ 1 ∷ 0 ∷ s .mode ∷ [])) 6 (wordBytes (s .n))
+    → ended ≡ put (set worded 8 (s .k)) 9 (wordBytes count)
     → ended ≡ put room 0 (headerBytes s count)
 header-put room s count worded ended fits word end =
     let start : List ℕ = sets room 0 (71 ∷ 82 ∷ 83 ∷ 1 ∷ 0 ∷ s .mode ∷ []) in
     let long : length start ≡ length room = length-sets room 0 (71 ∷ 82 ∷ 83 ∷ 1 ∷ 0 ∷ s .mode ∷ []) in
-    let first : worded ≡ sets start 6 (wordBytes (s .n)) = word ∙ sym (stores-put start 6 (wordBytes (s .n)) (omega arith)) in
+    let first : worded ≡ sets start 6 (wordBytes (s .n)) =
+    word ∙ sym (stores-put start 6 (wordBytes (s .n)) (omega arith)) in
     let long-2 : length (set worded 8 (s .k)) ≡ length room =
     length-set worded 8 (s .k) ∙ ap length first ∙ length-sets start 6 (wordBytes (s .n)) ∙ long in
     end
@@ -68,7 +68,8 @@ pub put-more : (room behind numbers : List ℕ) (i : ℕ) → i < length numbers
 put-more room behind numbers i l fits e =
     let passed : length (eventsBytes (take i numbers)) ≡ 3 * i = length-before numbers i (le-of-lt l) in
     ap (λ (l : List ℕ). put l (fileLength i) (eventBytes (getD numbers i 0))) e
-    ∙ put-append room 11 (eventsBytes (take i numbers)) (eventBytes (getD numbers i 0)) (fileLength i) (omega arith) (omega arith)
+    ∙ put-append room 11 (eventsBytes (take i numbers)) (eventBytes (getD numbers i 0)) (fileLength i)
+    (omega arith) (omega arith)
     ∙ ap (put room 11) (sym (events-more numbers i l))
 
 -- put at the start, bytes are followed by the rest of the room
@@ -83,6 +84,7 @@ pub put-file : (s : Settings) (numbers room headed written : List ℕ) → fileL
 put-file s numbers room headed written fits head rest =
     rest
     ∙ ap (λ (l : List ℕ). put l 11 (eventsBytes numbers)) head
-    ∙ put-append room 0 (headerBytes s (length numbers)) (eventsBytes numbers) 11 refl (omega (arith, length-events numbers))
+    ∙ put-append room 0 (headerBytes s (length numbers)) (eventsBytes numbers) 11 refl
+    (omega (arith, length-events numbers))
     ∙ put-start room (fileBytes s numbers)
     ∙ ap (λ (n : ℕ). fileBytes s numbers ++ drop n room) (length-file s numbers)

@@ -1,6 +1,5 @@
 -- 01, "Schedule file": a reader, and what asking it for its next event does.
-use mathlib.Core.Path.{_≡_}
-use mathlib.Core.List.{List}
+use mathlib.Core.{Path._≡_, List.List}
 use Prim.Native.Nat.{ℕ}
 use denote.Ref.{RefT, now}
 use Rattle.file.specs.File.{reading}

@@ -1,8 +1,7 @@
 -- A reader's answer with its position afterwards, as the code returns it.
 use Prim.Native.Nat.{ℕ}
 use Rattle.file.specs.File.{Read}
-use Rattle.machine.specs.declared.Refusal.{Refusal}
-use Rattle.machine.specs.declared.Reading.{Reading}
+use Rattle.machine.specs.declared.{Refusal.Refusal, Reading.Reading}
 use Rattle.schedule.specs.declared.Next.{Next}
 
 -- the definition's answer and position

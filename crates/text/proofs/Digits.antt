@@ -1,17 +1,10 @@
 -- Laws of a number in decimal: one digit, one digit more, how many digits there are, and what writing them puts.
-use mathlib.Core.Path.{_≡_, refl}
-use mathlib.Core.Bool.{Bool, true, false}
-use mathlib.Core.List.{List, [], _∷_, _++_}
+use mathlib.Core.{Path.{_≡_, refl}, Bool.{Bool, true, false}, List.{List, [], _∷_, _++_}}
 use Prim.Native.Nat.{ℕ, zero, suc, _+_, _*_, _/_, _%_, _^_, _≤_, _<_}
-use native.Mathlib.Nat.{not-suc-le-zero, div-lt-iff-lt-mul, pow-suc}
-use native.Mathlib.Numerals.{add-one}
-use native.Mathlib.Omega.{arith}
-use native.Mathlib.Decide.{decLe}
-use lib.Dec.{ltb, lit<}
-use lib.ListN.{length, set, length-append}
+use native.Mathlib.{Nat.{not-suc-le-zero, div-lt-iff-lt-mul, pow-suc}, Numerals.add-one, Omega.arith, Decide.decLe}
+use lib.{Dec.{ltb, lit<}, ListN.{length, set, length-append}}
 use borrow.Author.Tests.{lt-ltb, le-ltb, ltb-true, ltb-false}
-use Rattle.text.specs.Decimal.{digits, decimal}
-use Rattle.text.specs.Put.{Puts}
+use Rattle.text.specs.{Decimal.{digits, decimal}, Put.Puts}
 use Rattle.text.proofs.Putting.{put-byte, put-byte-after}
 
 -- any bound above the number gives the same digits
@@ -20,7 +13,8 @@ digits-same zero g n l m = absurd (not-suc-le-zero l)
 digits-same (suc f) zero n l m = absurd (not-suc-le-zero m)
 digits-same (suc f) (suc g) n l m = go (ltb n 10) refl (digits-same f g (n / 10))
   where
-    go : (b : Bool) → ltb n 10 ≡ b → (n / 10 < f → n / 10 < g → digits f (n / 10) ≡ digits g (n / 10)) → digits (suc f) n ≡ digits (suc g) n
+    go : (b : Bool) → ltb n 10 ≡ b → (n / 10 < f → n / 10 < g → digits f (n / 10) ≡ digits g (n / 10))
+        → digits (suc f) n ≡ digits (suc g) n
     go true e same = let h = ltb-true n 10 e in rw (lt-ltb n 10 h)
     go false e same = let h = ltb-false n 10 e in rw (le-ltb n 10 h, same (omega arith) (omega arith))
 
@@ -64,5 +58,7 @@ module _ (room : List ℕ) (at n : ℕ) (fits : at + length (decimal n) ≤ leng
       let past = before .past in
       record {
         past = omega arith;
-        room-after = rw (before .room-after, one-digit-more n l) (put-byte-after room at (decimal (n / 10)) (48 + n % 10) to past (omega arith));
+        room-after =
+            rw (before .room-after, one-digit-more n l)
+            (put-byte-after room at (decimal (n / 10)) (48 + n % 10) to past (omega arith));
       }

@@ -1,14 +1,9 @@
 -- A number in decimal is plain: one digit more is put behind the digits of a tenth.
-use mathlib.Core.Path.{_≡_, refl, sym, ap, subst, _∙_}
-use mathlib.Core.List.{List, [], _∷_, _++_}
+use mathlib.Core.{Path.{_≡_, refl, sym, subst, _∙_}, List.{List, [], _∷_, _++_}}
 use Prim.Native.Nat.{ℕ, zero, suc, _+_, _-_, _*_, _/_, _%_, _≤_, _<_}
-use native.Mathlib.Nat.{le-refl, not-suc-le-zero}
-use native.Mathlib.Decide.{decLt, ℕ-discrete}
-use native.Mathlib.Omega.{arith}
-use lib.ListN.{length, getD, length-append, List·getD-append}
-use lib.Seq.{getD-at}
-use Rattle.text.specs.Decimal.{decimal}
-use Rattle.text.specs.Plain.{valueFrom, Plain, DecimalPlain}
+use native.Mathlib.{Nat.{le-refl, not-suc-le-zero}, Decide.{decLt, ℕ-discrete}, Omega.arith}
+use lib.{ListN.{length, getD, length-append, List·getD-append}, Seq.getD-at}
+use Rattle.text.specs.{Decimal.decimal, Plain.{valueFrom, Plain, DecimalPlain}}
 use Rattle.text.proofs.Digits.{one-digit, one-digit-more}
 
 value-behind : (value : ℕ) (text : List ℕ) (digit : ℕ) → valueFrom value (text ++ (digit ∷ [])) ≡ 10 * valueFrom value text + (digit - 48)

@@ -1,10 +1,7 @@
 -- Laws of `put`: its length, one byte, and one text after another.
-use mathlib.Core.Path.{_≡_, sym, ap, _∙_}
-use mathlib.Core.List.{List, [], _∷_, _++_, append-assoc}
+use mathlib.Core.{Path.{_≡_, sym, ap, _∙_}, List.{List, [], _∷_, _++_, append-assoc}}
 use Prim.Native.Nat.{ℕ, suc, _+_, _≤_, _<_}
-use native.Mathlib.Nat.{add-assoc}
-use native.Mathlib.Numerals.{add-one}
-use native.Mathlib.Omega.{arith}
+use native.Mathlib.{Nat.add-assoc, Numerals.add-one, Omega.arith}
 use lib.ListN.{length, take, drop, set, getD, length-append, length-drop, take-append-drop}
 use lib.Seq.{length-take-le, take-at, drop-append-add, drop-drop, set-split, take-suc}
 use Rattle.text.specs.Put.{put, Puts}
@@ -30,23 +27,30 @@ module _ (room : List ℕ) (at : ℕ) where
       (omega arith)
 
   -- one text after another is the two put as one
-  pub put-append : (a b : List ℕ) (to : ℕ) → to ≡ at + length a → to + length b ≤ length room → put (put room at a) to b ≡ put room at (a ++ b)
+  pub put-append : (a b : List ℕ) (to : ℕ) → to ≡ at + length a → to + length b ≤ length room
+      → put (put room at a) to b ≡ put room at (a ++ b)
   unfolding put
   put-append a b to past fits =
       let head : List ℕ = take at room ++ a in
       let rest : List ℕ = drop (at + length a) room in
-      let long : length head ≡ to = length-append (take at room) a ∙ rw (length-take-le at room (omega arith)) (sym past) in
+      let last : List ℕ = drop (at + length (a ++ b)) room in
+      let long : length head ≡ to =
+      length-append (take at room) a ∙ rw (length-take-le at room (omega arith)) (sym past) in
       let whole : take at room ++ (a ++ rest) ≡ head ++ rest = sym (append-assoc (take at room) a rest) in
       let before : take to (head ++ rest) ≡ head = take-at head rest to long in
-      let after : drop (to + length b) (head ++ rest) ≡ drop (at + length (a ++ b)) room =
+      let after : drop (to + length b) (head ++ rest) ≡ last =
       ap (λ (n : ℕ). drop (n + length b) (head ++ rest)) (sym long)
       ∙ drop-append-add head rest (length b)
       ∙ drop-drop (length b) (at + length a) room
-      ∙ ap (λ (n : ℕ). drop n room) (add-assoc at (length a) (length b) ∙ ap (λ (n : ℕ). at + n) (sym (length-append a b))) in
-      rw (whole, before, after) (append-assoc (take at room) a (b ++ drop (at + length (a ++ b)) room) ∙ ap (λ (l : List ℕ). take at room ++ l) (sym (append-assoc a b (drop (at + length (a ++ b)) room))))
+      ∙ ap (λ (n : ℕ). drop n room) (add-assoc at (length a) (length b))
+      ∙ ap (λ (n : ℕ). drop (at + n) room) (sym (length-append a b)) in
+      rw (whole, before, after)
+      (append-assoc (take at room) a (b ++ last)
+      ∙ ap (λ (l : List ℕ). take at room ++ l) (sym (append-assoc a b last)))
 
   -- one byte after a text
-  pub put-byte-after : (a : List ℕ) (b to : ℕ) → to ≡ at + length a → to < length room → set (put room at a) to b ≡ put room at (a ++ (b ∷ []))
+  pub put-byte-after : (a : List ℕ) (b to : ℕ) → to ≡ at + length a → to < length room
+      → set (put room at a) to b ≡ put room at (a ++ (b ∷ []))
   put-byte-after a b to past fits =
       let long = length-put a (omega arith) in
       put-byte (put room at a) to b (omega arith) ∙ put-append a (b ∷ []) to past (omega arith)

@@ -1,11 +1,8 @@
 -- Text as bytes: a fixed text, and a number in decimal.
-use mathlib.Core.Bool.{cond}
-use mathlib.Core.List.{List, [], _∷_, _++_}
-use Prim.Native.Nat.{ℕ, zero, suc, _+_, _/_, _%_}
-use Prim.Native.Char.{code}
-use Prim.Native.String.{String}
-use Prim.Native.String as string
+use mathlib.Core.{Bool.cond, List.{List, [], _∷_, _++_}}
+use Prim.Native.{Nat.{ℕ, zero, suc, _+_, _/_, _%_}, Char.code, String.String}
 use lib.Dec.{ltb}
+use Prim.Native.String as string
 
 -- the bytes of a text
 abbrev pub bytesOf : String → List ℕ

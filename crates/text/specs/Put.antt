@@ -1,6 +1,5 @@
 -- What writing text into lent room leaves: the text at its place, and every other byte as it was.
-use mathlib.Core.Path.{_≡_}
-use mathlib.Core.List.{List, _++_}
+use mathlib.Core.{Path._≡_, List.{List, _++_}}
 use Prim.Native.Nat.{ℕ, _+_}
 use lib.ListN.{length, take, drop}
 

@@ -1,66 +1,47 @@
--- `listing_of` hands back the part that `list` filled: no file is refused for want of room, and the text is the whole listing.
-use mathlib.Core.Path.{sym, ap, _∙_}
+-- `listing_of` hands back the part that `list` filled: no file is refused for want of room, and the text is the whole
+-- listing.
+use mathlib.Core.{Path.{sym, ap, _∙_}, List.List}
+use Prim.Native.Nat.{ℕ}
 use lib.Seq.{length-take-le}
 use denote.Ref.{now}
-use Rattle.printed.specs.Listing.{listing}
+use Rattle.printed.{specs.Listing.listing, proofs.Longer.part-listed}
 use Rattle.listing.proofs.Contract.{text-within}
-use Rattle.printed.proofs.Longer.{part-listed}
-use Rattle.gridlist.proofs.Whole.{never-refused, text-whole}
+use Rattle.gridlist.proofs.{Whole.{never-refused, text-whole}, listing_of.Statement.statement}
 use borrow.Author.Needs.{needs}
-use Rattle.gridlist.proofs.listing_of.Statement.{statement}
 use Rattle.gridlist.proofs.listing_of.Tie as tie
 
-first-requires : tie.Need-first-requires
-first-requires c κs = search needs
+-- the start, the file that is listed and the room, seen from the call of `list`
+abbrev start : tie.After-list → tie.Start
+start c = c .before .before .before .before .before
 
-list-requires : tie.Need-list-requires
-list-requires c κs = search needs
+abbrev file : tie.After-list → List ℕ
+file c = now (c .before .before .first .result)
 
-enum-known-listed : tie.Need-enum-known-listed
-enum-known-listed c = search needs
-
-enum-told : tie.Need-enum-told
-enum-told c = search needs
-
-slice-aggregate-result : tie.Need-slice-aggregate-result
-slice-aggregate-result c = search needs
+abbrev room : tie.After-list → List ℕ
+room c = now (start c .args .room)
 
 returns : tie.Need-returns
 returns c =
-    let start = c .before .before .before .before .before .before .before .before .before .before in
-    let file = now (c .before .before .before .before .before .before .before .first .result) in
-    let lists = c .before .before .before .before .before .list in
-    let is = rw (c .before .enum-told .given .1) at (lists .ensures) in
-    absurd (never-refused file (now (start .args .room)) (lists .last .1 .0) (start .pre .1) _ is)
+    let called = c .before .before .before .before .before in
+    let is = rw (c .before .enum-told .given .1) at (called .list .ensures) in
+    absurd (never-refused (file called) (room called) (called .list .last .1 .0) (start called .pre .1) _ is)
 
 slice-aggregate-result-2 : tie.Need-slice-aggregate-result-2
 slice-aggregate-result-2 c =
-    let start = c .before .before .before .before .before .before .before .before .before .before .before in
-    let file = now (c .before .before .before .before .before .before .before .before .first .result) in
-    let lists = c .before .before .before .before .before .before .list in
-    let is = rw (c .before .before .listed .given .1) at (lists .ensures) in
-    let within = text-within file (now (start .args .room)) (lists .last .1 .0) _ is in
-    sym (length-take-le _ (lists .last .1 .0) (search (needs, within)))
+    let called = c .before .before .before .before .before .before in
+    let after = called .list .last .1 .0 in
+    let is = rw (c .before .before .listed .given .1) at (called .list .ensures) in
+    sym (length-take-le _ after (search (needs, text-within (file called) (room called) after _ is)))
 
 returns-2 : tie.Need-returns-2
 returns-2 c =
-    let start = c .before .before .before .before .before .before .before .before .before .before .before in
-    let first = c .before .before .before .before .before .before .before .before .first in
-    let lists = c .before .before .before .before .before .before .list in
-    let is = rw (c .before .before .listed .given .1) at (lists .ensures) in
-    let whole = text-whole (now (first .result)) (now (start .args .room)) (lists .last .1 .0) (start .pre .1) _ is in
-    let text = whole ∙ ap listing (first .ensures) in
-    (text, λ all read. text ∙ ap listing read ∙ part-listed all _ (start .pre .0))
+    let called = c .before .before .before .before .before .before in
+    let is = rw (c .before .before .listed .given .1) at (called .list .ensures) in
+    let whole = text-whole (file called) (room called) (called .list .last .1 .0) (start called .pre .1) _ is in
+    let text = whole ∙ ap listing (called .before .before .first .ensures) in
+    (text, λ all read. text ∙ ap listing read ∙ part-listed all _ (start called .pre .0))
 
 pub listing-of-spec : {M : Type 1} → statement M
 listing-of-spec =
-    tie.close
-    (tie.spec
-    first-requires
-    list-requires
-    enum-known-listed
-    enum-told
-    slice-aggregate-result
-    returns
-    slice-aggregate-result-2
-    returns-2)
+    tie.close (tie.spec (λ c κs. search needs) (λ c κs. search needs) (λ c. search needs) (λ c. search needs)
+    (λ c. search needs) returns slice-aggregate-result-2 returns-2)

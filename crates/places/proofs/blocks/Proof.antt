@@ -1,12 +1,8 @@
 -- The count of blocks is the definition's, by what `half` ensures of k, which is at most 16.
 use native.Mathlib.Omega.{arith}
-use Rattle.machine.proofs.Limits.{limits}
-use Rattle.machine.proofs.Tests.{tests}
+use Rattle.machine.proofs.{Limits.limits, Tests.tests}
 use Rattle.places.proofs.blocks.Statement.{statement}
 use Rattle.places.proofs.blocks.Tie as tie
-
-cast-half : tie.Need-cast-half
-cast-half c = search tests
 
 half-requires : tie.Need-half-requires
 half-requires c κs =
@@ -17,4 +13,4 @@ returns : tie.Need-returns
 returns c = c .half .ensures
 
 pub blocks-spec : {M : Type 1} → statement M
-blocks-spec = tie.close (tie.spec cast-half half-requires returns)
+blocks-spec = tie.close (tie.spec (λ c. search tests) half-requires returns)

@@ -3,16 +3,12 @@ use mathlib.Core.Path.{refl}
 use native.Mathlib.Omega.{arith}
 use Rattle.grid.specs.Triangle.{half}
 use Rattle.machine.proofs.Tests.{tests}
-use Rattle.places.proofs.Counts.{product-fits}
-use Rattle.places.proofs.half.Statement.{statement}
+use Rattle.places.proofs.{Counts.product-fits, half.Statement.statement}
 use Rattle.places.proofs.half.Tie as tie
 
 returns : tie.Need-returns
 unfolding half
 returns c = rw (c .if1 .taken)
-
-sub-result : tie.Need-sub-result
-sub-result c = search tests
 
 mul-result : tie.Need-mul-result
 mul-result c = product-fits _ _ (omega arith) (omega arith)
@@ -22,4 +18,4 @@ unfolding half
 returns-2 c = refl
 
 pub half-spec : {M : Type 1} → statement M
-half-spec = tie.close (tie.spec returns sub-result mul-result returns-2)
+half-spec = tie.close (tie.spec returns (λ c. search tests) mul-result returns-2)

@@ -1,34 +1,27 @@
 -- The index of a mark is the definition's, by the width of a block.
 use mathlib.Core.Path.{refl}
+use Prim.Native.Nat.{_≤_}
 use native.Mathlib.Omega.{arith}
-use Rattle.machine.proofs.Limits.{limits, width-most}
-use Rattle.machine.proofs.Tests.{tests}
+use Rattle.machine.proofs.{Limits.{limits, width-most}, Tests.tests}
 use Rattle.places.proofs.Counts.{product-fits, product-and-sum-fit, blocks-most}
 use Rattle.places.proofs.mark_index.Statement.{statement}
 use Rattle.places.proofs.mark_index.Tie as tie
 
-width-requires : tie.Need-width-requires
-width-requires c κs = search tests
-
-cast-width : tie.Need-cast-width
-cast-width c = search tests
+small : (c : tie.After-width) → (c .before .args .block ≤ 256) × (c .before .args .place ≤ 256) × (c .width .result ≤ 256)
+small c =
+    let limit = limits (c .before .args .s) (c .before .pre .0) in
+    let few = blocks-most _ limit in
+    let wide = width-most _ limit in
+    (omega arith, omega arith, omega arith)
 
 mul-result : tie.Need-mul-result
-mul-result c =
-    let limit = limits (c .before .args .s) (c .before .pre .0) in
-    let few = blocks-most _ limit in
-    let wide = width-most _ limit in
-    product-fits _ _ (omega arith) (omega arith)
+mul-result c = product-fits _ _ (small c .0) (small c .2)
 
 add-result : tie.Need-add-result
-add-result c =
-    let limit = limits (c .before .args .s) (c .before .pre .0) in
-    let few = blocks-most _ limit in
-    let wide = width-most _ limit in
-    product-and-sum-fit _ _ (omega arith) (omega arith) _ (omega arith)
+add-result c = product-and-sum-fit _ _ (small c .0) (small c .2) _ (small c .1)
 
 returns : tie.Need-returns
 returns c = rw (c .width .ensures) refl
 
 pub mark-index-spec : {M : Type 1} → statement M
-mark-index-spec = tie.close (tie.spec width-requires cast-width mul-result add-result returns)
+mark-index-spec = tie.close (tie.spec (λ c κs. search tests) (λ c. search tests) mul-result add-result returns)

@@ -1,19 +1,8 @@
 -- The count of marks is the definition's: so many blocks, of so many marks each.
 use native.Mathlib.Omega.{arith}
-use Rattle.machine.proofs.Limits.{limits, width-most}
-use Rattle.machine.proofs.Tests.{tests}
-use Rattle.places.proofs.Counts.{product-fits, blocks-most, marks-of}
-use Rattle.places.proofs.marks_needed.Statement.{statement}
+use Rattle.machine.proofs.{Limits.{limits, width-most}, Tests.tests}
+use Rattle.places.proofs.{Counts.{product-fits, blocks-most, marks-of}, marks_needed.Statement.statement}
 use Rattle.places.proofs.marks_needed.Tie as tie
-
-blocks-requires : tie.Need-blocks-requires
-blocks-requires c κs = search tests
-
-width-requires : tie.Need-width-requires
-width-requires c κs = search tests
-
-cast-width : tie.Need-cast-width
-cast-width c = search tests
 
 mul-result : tie.Need-mul-result
 mul-result c =
@@ -27,4 +16,4 @@ returns c = marks-of (c .before .before .args .s) _ _ (c .before .blocks2 .ensur
 
 pub marks-needed-spec : {M : Type 1} → statement M
 marks-needed-spec =
-    tie.close (tie.spec blocks-requires width-requires cast-width mul-result returns)
+    tie.close (tie.spec (λ c κs. search tests) (λ c κs. search tests) (λ c. search tests) mul-result returns)

@@ -3,16 +3,13 @@ use mathlib.Core.Path.{_≡_, ap}
 use Prim.Native.Nat.{ℕ}
 use native.Mathlib.Omega.{arith}
 use Rattle.grid.specs.Triangle.{placeNumber}
-use Rattle.machine.specs.Calls.{nameAt}
-use Rattle.machine.specs.declared.Settings.{Settings}
-use Rattle.machine.specs.declared.Name.{Name}
-use Rattle.machine.proofs.Limits.{limits}
-use Rattle.places.proofs.Counts.{place-number-fits}
-use Rattle.places.proofs.name_at.Statement.{statement}
+use Rattle.machine.{specs.{Calls.nameAt, declared.{Settings.Settings, Name.Name}}, proofs.Limits.limits}
+use Rattle.places.proofs.{Counts.place-number-fits, name_at.Statement.statement}
 use Rattle.places.proofs.name_at.Tie as tie
 
 -- the names are the numbers of the triangle of side k
-named-in-triangle : (s : Settings) (side r c : ℕ) → side ≡ s .k → _≡_ {A = Name} (record { 0 = placeNumber side r c }) (nameAt s r c)
+named-in-triangle : (s : Settings) (side r c : ℕ) → side ≡ s .k
+    → _≡_ {A = Name} (record { 0 = placeNumber side r c }) (nameAt s r c)
 named-in-triangle s side r c whole = ap (λ (x : ℕ). record { 0 = placeNumber x r c }) whole
 
 place-number-requires : tie.Need-place-number-requires

@@ -3,21 +3,6 @@ use Rattle.machine.proofs.Tests.{tests}
 use Rattle.records.proofs.access.Statement.{statement}
 use Rattle.records.proofs.access.Tie as tie
 
-enum-told : tie.Need-enum-told
-enum-told c = search tests
-
-enum-told-2 : tie.Need-enum-told-2
-enum-told-2 c = search tests
-
-turn-access-requires : tie.Need-turn-access-requires
-turn-access-requires c κs = search tests
-
-enum-told-3 : tie.Need-enum-told-3
-enum-told-3 c = search tests
-
-release-access-requires : tie.Need-release-access-requires
-release-access-requires c κs = search tests
-
 returns : tie.Need-returns
 returns c = rw (c .enum-told .given .1)
 
@@ -29,5 +14,5 @@ returns-3 c = rw (c .before .enum-told3 .given .1) (c .release-access .ensures)
 
 pub access-spec : {M : Type 1} → statement M
 access-spec =
-    tie.close
-    (tie.spec enum-told enum-told-2 turn-access-requires enum-told-3 release-access-requires returns returns-2 returns-3)
+    tie.close (tie.spec (λ c. search tests) (λ c. search tests) (λ c κs. search tests) (λ c. search tests)
+    (λ c κs. search tests) returns returns-2 returns-3)

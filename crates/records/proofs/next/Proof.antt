@@ -1,24 +1,11 @@
--- `next` is the definition's: an ask comes to (0, 0), which is a place since k is 1 or more; a turn goes on from the value read; a release leaves
--- the task idle.
-use Rattle.machine.proofs.Limits.{limits}
-use Rattle.machine.proofs.Tests.{tests}
+-- `next` is the definition's: an ask comes to (0, 0), which is a place since k is 1 or more; a turn goes on from the
+-- value read; a release leaves the task idle.
+use Rattle.machine.proofs.{Limits.limits, Tests.tests}
 use Rattle.records.proofs.next.Statement.{statement}
 use Rattle.records.proofs.next.Tie as tie
 
-enum-told : tie.Need-enum-told
-enum-told c = search tests
-
 arrive-requires : tie.Need-arrive-requires
 arrive-requires c κs = let start = c .before .before in limits (start .args .s) (start .pre .0) .k-least
-
-enum-told-2 : tie.Need-enum-told-2
-enum-told-2 c = search tests
-
-turned-requires : tie.Need-turned-requires
-turned-requires c κs = search tests
-
-enum-told-3 : tie.Need-enum-told-3
-enum-told-3 c = search tests
 
 returns : tie.Need-returns
 returns c = rw (c .before .enum-told .given .1, c .arrive .ensures)
@@ -31,5 +18,5 @@ returns-3 c = rw (c .enum-told3 .given .1)
 
 pub next-spec : {M : Type 1} → statement M
 next-spec =
-    tie.close
-    (tie.spec enum-told arrive-requires enum-told-2 turned-requires enum-told-3 returns returns-2 returns-3)
+    tie.close (tie.spec (λ c. search tests) arrive-requires (λ c. search tests) (λ c κs. search tests)
+    (λ c. search tests) returns returns-2 returns-3)

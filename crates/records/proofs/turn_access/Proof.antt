@@ -1,15 +1,8 @@
 -- The access of a turn is the definition's: that of the point, on a block since the record is in range.
 use native.Mathlib.Omega.{arith}
-use Rattle.machine.proofs.Ranges.{seeks-on-block}
-use Rattle.machine.proofs.Tests.{tests}
+use Rattle.machine.proofs.{Ranges.seeks-on-block, Tests.tests}
 use Rattle.records.proofs.turn_access.Statement.{statement}
 use Rattle.records.proofs.turn_access.Tie as tie
-
-enum-told : tie.Need-enum-told
-enum-told c = search tests
-
-enum-known-state : tie.Need-enum-known-state
-enum-known-state c = search tests
 
 point-access-requires : tie.Need-point-access-requires
 point-access-requires c κs =
@@ -17,26 +10,10 @@ point-access-requires c κs =
     let on = seeks-on-block (p .args .s) _ _ _ _ (p .pre .1) (c .before .state .given .1) in
     (p .pre .0, omega arith)
 
-enum-told-2 : tie.Need-enum-told-2
-enum-told-2 c = search tests
-
-returns : tie.Need-returns
-returns c = search tests
-
 returns-2 : tie.Need-returns-2
 returns-2 c = rw (c .before .before .state .given .1) (c .point-access .ensures)
 
-returns-3 : tie.Need-returns-3
-returns-3 c = search tests
-
 pub turn-access-spec : {M : Type 1} → statement M
 turn-access-spec =
-    tie.close
-    (tie.spec
-    enum-told
-    enum-known-state
-    point-access-requires
-    enum-told-2
-    returns
-    returns-2
-    returns-3)
+    tie.close (tie.spec (λ c. search tests) (λ c. search tests) point-access-requires (λ c. search tests)
+    (λ c. search tests) returns-2 (λ c. search tests))

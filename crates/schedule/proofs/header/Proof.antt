@@ -1,124 +1,60 @@
 -- What each test shows once it is passed, and from these the verdict at each return.
-use mathlib.Core.Path.{_≡_, sym, _∙_, ap}
-use mathlib.Core.Bool.{false, not}
-use lib.Dec.{eqb, ltb}
-use lib.ListN.{length}
-use borrow.Author.Tests.{lt-ltb, le-ltb, eq-eqb, ne-eqb}
-use Rattle.machine.specs.Settings.{permitted}
-use Rattle.machine.specs.Refusals.{outsideLimits}
-use Rattle.file.specs.File.{lettersRight, versionOf, settingsOf, countOf, mostEvents, fileLength}
-use Rattle.machine.proofs.Tests.{tests}
+use mathlib.Core.{Path.{_≡_, sym, _∙_, ap}, Bool.{false, not}}
+use lib.Dec.{eqb}
+use borrow.Author.Tests.{eq-eqb}
+use Rattle.machine.{specs.{Settings.permitted, Refusals.outsideLimits}, proofs.Tests.tests}
+use Rattle.file.specs.File.{lettersRight, versionOf, settingsOf}
 use Rattle.schedule.proofs.header.Statement.{statement}
 use Rattle.schedule.proofs.header.Tie as tie
-
-long : (c : tie.Else1) → ltb (length (c .before .before .args .file .now)) 11 ≡ false
-long c = le-ltb _ _ (c .if1 .left)
 
 lettered : (c : tie.Else2) → not (lettersRight (c .before .before .before .before .args .file .now)) ≡ false
 lettered c = ap not (sym (c .before .letters .ensures)) ∙ c .if2 .left
 
-versioned : (c : tie.Else3) → not (eqb (versionOf (c .before .before .before .before .before .before .args .file .now)) 1) ≡ false
+versioned : (c : tie.Else3) → let start = c .before .before .before .before .before .before in
+    not (eqb (versionOf (start .args .file .now)) 1) ≡ false
 versioned c = ap not (eq-eqb _ _ (sym (c .before .word .ensures) ∙ c .if3 .left))
 
-permits : (c : tie.After-permitted) → not (c .permitted .result) ≡ outsideLimits (settingsOf (c .before .before .before .before .before .before .before .before .args .file .now))
+permits : (c : tie.After-permitted) → let start = c .before .before .before .before .before .before .before .before in
+    not (c .permitted .result) ≡ outsideLimits (settingsOf (start .args .file .now))
 permits c = ap not (c .permitted .ensures ∙ ap permitted (c .before .settings .ensures))
 
-within : (c : tie.Else4) → outsideLimits (settingsOf (c .before .before .before .before .before .before .before .before .before .args .file .now)) ≡ false
-within c = sym (permits (c .before)) ∙ c .if4 .left
-
-few : (c : tie.Else5) → ltb mostEvents (countOf (c .before .before .before .before .before .before .before .before .before .before .before .args .file .now)) ≡ false
-few c = ap (ltb mostEvents) (sym (c .before .word2 .ensures)) ∙ le-ltb _ _ (c .if5 .left)
-
--- the length that the count asks for
-counts : (c : tie.Else5) → fileLength (c .before .word2 .result) ≡ fileLength (countOf (c .before .before .before .before .before .before .before .before .before .before .before .args .file .now))
-counts c = ap fileLength (c .before .word2 .ensures)
-
-returns : tie.Need-returns
-returns c = search tests
-
-letters-requires : tie.Need-letters-requires
-letters-requires c κs = search tests
-
 returns-2 : tie.Need-returns-2
-returns-2 c = rw (long (c .before .before), ap not (sym (c .before .letters .ensures)) ∙ c .if2 .taken)
-
-word-requires : tie.Need-word-requires
-word-requires c κs = search tests
+returns-2 c = search (tests, ap not (sym (c .before .letters .ensures)) ∙ c .if2 .taken)
 
 returns-3 : tie.Need-returns-3
-returns-3 c = rw (long (c .before .before .before .before), lettered (c .before .before), ne-eqb _ 1 (λ e. c .if3 .taken (c .before .word .ensures ∙ e)))
-
-settings-requires : tie.Need-settings-requires
-settings-requires c κs = search tests
-
-permitted-requires : tie.Need-permitted-requires
-permitted-requires c κs = search tests
+returns-3 c = search (tests, lettered (c .before .before), ← c .before .word .ensures)
 
 returns-4 : tie.Need-returns-4
 returns-4 c =
-    rw
-    (long (c .before .before .before .before .before .before .before), lettered (c .before .before .before .before .before), versioned (c .before .before .before), sym (permits (c .before)) ∙ c .if4 .taken)
-
-word-requires-2 : tie.Need-word-requires-2
-word-requires-2 c κs = search tests
-
-cast-count : tie.Need-cast-count
-cast-count c = search tests
-
-mul-whole : tie.Need-mul-whole
-mul-whole c = search tests
-
-add-whole : tie.Need-add-whole
-add-whole c = search tests
+    let third = c .before .before .before in
+    let outside = sym (permits (c .before)) ∙ c .if4 .taken in
+    search (tests, lettered (third .before .before), versioned third, outside)
 
 returns-5 : tie.Need-returns-5
 returns-5 c =
-    rw (
-      long (c .before .before .before .before .before .before .before .before .before),
-      lettered (c .before .before .before .before .before .before .before),
-      versioned (c .before .before .before .before .before),
-      within (c .before .before),
-      ap (ltb mostEvents) (sym (c .before .word2 .ensures)) ∙ lt-ltb _ _ (c .if5 .taken),
-    )
+    let fourth = c .before .before in
+    let third = fourth .before .before .before in
+    let within = sym (permits (fourth .before)) ∙ fourth .if4 .left in
+    search (tests, lettered (third .before .before), versioned third, within, ← c .before .word2 .ensures)
 
 returns-6 : tie.Need-returns-6
 returns-6 c =
-    rw (
-      long (c .before .before .before .before .before .before .before .before .before .before),
-      lettered (c .before .before .before .before .before .before .before .before),
-      versioned (c .before .before .before .before .before .before),
-      within (c .before .before .before),
-      few (c .before),
-      eq-eqb _ _ (c .if6 .taken ∙ counts (c .before)),
-    )
+    let fifth = c .before in
+    let fourth = fifth .before .before in
+    let third = fourth .before .before .before in
+    let within = sym (permits (fourth .before)) ∙ fourth .if4 .left in
+    search (tests, lettered (third .before .before), versioned third, within, ← fifth .before .word2 .ensures)
 
 returns-7 : tie.Need-returns-7
 returns-7 c =
-    rw (
-      long (c .before .before .before .before .before .before .before .before .before .before),
-      lettered (c .before .before .before .before .before .before .before .before),
-      versioned (c .before .before .before .before .before .before),
-      within (c .before .before .before),
-      few (c .before),
-      ne-eqb _ _ (λ e. c .if6 .left (e ∙ sym (counts (c .before)))),
-    )
+    let fifth = c .before in
+    let fourth = fifth .before .before in
+    let third = fourth .before .before .before in
+    let within = sym (permits (fourth .before)) ∙ fourth .if4 .left in
+    search (tests, lettered (third .before .before), versioned third, within, ← fifth .before .word2 .ensures)
 
 pub header-spec : {M : Type 1} → statement M
 header-spec =
-    tie.close
-    (tie.spec
-    returns
-    letters-requires
-    returns-2
-    word-requires
-    returns-3
-    settings-requires
-    permitted-requires
-    returns-4
-    word-requires-2
-    cast-count
-    mul-whole
-    add-whole
-    returns-5
-    returns-6
-    returns-7)
+    tie.close (tie.spec (λ c. search tests) (λ c κs. search tests) returns-2 (λ c κs. search tests) returns-3
+    (λ c κs. search tests) (λ c κs. search tests) returns-4 (λ c κs. search tests) (λ c. search tests)
+    (λ c. search tests) (λ c. search tests) returns-5 returns-6 returns-7)

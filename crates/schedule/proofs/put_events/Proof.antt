@@ -1,18 +1,14 @@
 -- The events before i are behind the header.
-use mathlib.Core.Path.{_≡_, sym, ap, _∙_}
-use mathlib.Core.List.{List}
+use mathlib.Core.{Path.{_≡_, sym, ap, _∙_}, List.List}
 use Prim.Native.Nat.{ℕ, _-_, _≤_}
 use native.Mathlib.Omega.{arith}
-use lib.ListN.{length, take, getD}
-use lib.Seq.{take-all}
+use lib.{ListN.{length, take, getD}, Seq.take-all}
 use borrow.Author.Tests.{ltb-false}
 use Rattle.file.specs.File.{codeIn, numberBad, eventsBytes}
-use Rattle.machine.proofs.Tests.{tests}
-use Rattle.text.specs.Put.{put}
-use Rattle.text.proofs.Putting.{put-nothing}
 use Rattle.counting.proofs.Some.{none-below}
-use Rattle.schedule.proofs.Bytes.{length-behind, put-more}
-use Rattle.schedule.proofs.put_events.Statement.{statement}
+use Rattle.machine.proofs.Tests.{tests}
+use Rattle.text.{specs.Put.put, proofs.Putting.put-nothing}
+use Rattle.schedule.proofs.{Bytes.{length-behind, put-more}, put_events.Statement.statement}
 use Rattle.schedule.proofs.put_events.Tie as tie
 
 abbrev Inv-loop : tie.InvT-loop
@@ -21,61 +17,46 @@ Inv-loop room₀ events i₀ room i = (i ≤ length events) × (room ≡ put roo
 abbrev μ-loop : tie.MeasureT-loop
 μ-loop room₀ events i₀ room i = length events - i
 
+abbrev start : tie.At-loop Inv-loop μ-loop → tie.Start Inv-loop μ-loop
+start c = c .before .before .before
+
 -- the room is as long as it was
-kept : (c : tie.At-loop Inv-loop μ-loop) → length (c .loop .room) ≡ length (c .before .before .before .args .room .now)
-kept c = ap length (c .loop .inv .1) ∙ length-behind _ (c .before .before .before .args .events .now) _ (c .loop .inv .0) (c .before .before .before .pre .0)
+kept : (c : tie.At-loop Inv-loop μ-loop) → length (c .loop .room) ≡ length (start c .args .room .now)
+kept c =
+    ap length (c .loop .inv .1)
+    ∙ length-behind _ (start c .args .events .now) _ (c .loop .inv .0) (start c .pre .0)
 
 -- no code is above 2
-known : (c : tie.In-loop Inv-loop μ-loop) → codeIn (getD (c .before .before .before .before .args .events .now) (c .before .loop .i) 0) ≤ 2
-known c = ltb-false _ _ (none-below (numberBad (c .before .before .before .before .args .events .now)) _ (c .before .before .before .before .pre .1) _ (c .loop-test .taken))
+known : (c : tie.In-loop Inv-loop μ-loop)
+    → codeIn (getD (start (c .before) .args .events .now) (c .before .loop .i) 0) ≤ 2
+known c =
+    let bad = numberBad (start (c .before) .args .events .now) in
+    ltb-false _ _ (none-below bad _ (start (c .before) .pre .1) _ (c .loop-test .taken))
 
 loop-holds : tie.Need-loop-holds Inv-loop μ-loop
 loop-holds c = (search tests, sym (put-nothing _ 11))
 
-mul-put-event : tie.Need-mul-put-event Inv-loop μ-loop
-mul-put-event c = search tests
-
-add-put-event : tie.Need-add-put-event Inv-loop μ-loop
-add-put-event c = search tests
-
-mul-put-event-2 : tie.Need-mul-put-event-2 Inv-loop μ-loop
-mul-put-event-2 c = search tests
-
-shared-slice-read-put-event : tie.Need-shared-slice-read-put-event Inv-loop μ-loop
-shared-slice-read-put-event c = search tests
-
 put-event-requires : tie.Need-put-event-requires Inv-loop μ-loop
 put-event-requires c κs = (omega (arith, kept (c .before .before .before)), known (c .before .before))
 
-add-i : tie.Need-add-i Inv-loop μ-loop
-add-i c = search tests
-
-loop-less : tie.Need-loop-less Inv-loop μ-loop
-loop-less c = search tests
-
 loop-again : tie.Need-loop-again Inv-loop μ-loop
-loop-again c = (search tests, c .before .before .put-event .ensures ∙ put-more _ _ (c .before .before .before .before .before .before .before .before .before .args .events .now) _ (c .before .before .before .before .before .loop-test .taken) (c .before .before .before .before .before .before .before .before .before .pre .0) (c .before .before .before .before .before .before .loop .inv .1))
+loop-again c =
+    let inside = c .before .before .before .before .before in
+    let turn = inside .before in
+    let events = start turn .args .events .now in
+    let more = put-more _ _ events _ (inside .loop-test .taken) (start turn .pre .0) (turn .loop .inv .1) in
+    (search tests, c .before .before .put-event .ensures ∙ more)
 
 same-length : tie.Need-same-length Inv-loop μ-loop
 same-length c = kept (c .before)
 
 returns : tie.Need-returns Inv-loop μ-loop
-returns c = c .before .loop .inv .1 ∙ ap (λ (l : List ℕ). put (c .before .before .before .before .args .room .now) 11 (eventsBytes l)) (take-all _ _ (c .loop-test .left))
+returns c =
+    let room = start (c .before) .args .room .now in
+    c .before .loop .inv .1 ∙ ap (λ (l : List ℕ). put room 11 (eventsBytes l)) (take-all _ _ (c .loop-test .left))
 
 pub put-events-spec : {M : Type 1} → statement M
 put-events-spec =
-    tie.close
-    (tie.spec
-    Inv-loop
-    μ-loop
-    loop-holds
-    mul-put-event
-    add-put-event
-    mul-put-event-2
-    shared-slice-read-put-event
-    put-event-requires
-    add-i
-    loop-less
-    loop-again
-    same-length
+    tie.close (tie.spec Inv-loop μ-loop loop-holds (λ c. search tests) (λ c. search tests) (λ c. search tests)
+    (λ c. search tests) put-event-requires (λ c. search tests) (λ c. search tests) loop-again same-length
     returns)

@@ -2,40 +2,21 @@ use mathlib.Core.Path.{_≡_, _∙_}
 use native.Mathlib.Omega.{arith}
 use lib.ListN.{length, length-set}
 use Rattle.machine.proofs.Tests.{tests}
-use Rattle.schedule.proofs.Bytes.{header-put}
-use Rattle.schedule.proofs.put_header.Statement.{statement}
+use Rattle.schedule.proofs.{Bytes.header-put, put_header.Statement.statement}
 use Rattle.schedule.proofs.put_header.Tie as tie
 
 -- the room is as long as it was, after one word and after two
-kept : (c : tie.After-put-word) → length (c .put-word .last .0) ≡ length (c .before .before .before .before .args .room .now)
+abbrev start : tie.After-put-word → tie.Start
+start c = c .before .before .before .before
+
+kept : (c : tie.After-put-word) → length (c .put-word .last .0) ≡ length (start c .args .room .now)
 kept c = c .put-word .kept .0 ∙ simp length-set
 
-kept-2 : (c : tie.After-put-word2) → length (c .put-word2 .last .0) ≡ length (c .before .before .before .before .before .before .before .before .args .room .now)
-kept-2 c = c .put-word2 .kept .0 ∙ simp length-set (kept (c .before .before .before .before))
+abbrev worded : tie.After-put-word2 → tie.After-put-word
+worded c = c .before .before .before .before
 
-slice-write-room : tie.Need-slice-write-room
-slice-write-room c = search tests
-
-slice-write-room-2 : tie.Need-slice-write-room-2
-slice-write-room-2 c = simp length-set (omega arith)
-
-slice-write-room-3 : tie.Need-slice-write-room-3
-slice-write-room-3 c = simp length-set (omega arith)
-
-slice-write-room-4 : tie.Need-slice-write-room-4
-slice-write-room-4 c = simp length-set (omega arith)
-
-slice-write-room-5 : tie.Need-slice-write-room-5
-slice-write-room-5 c = simp length-set (omega arith)
-
-slice-write-room-6 : tie.Need-slice-write-room-6
-slice-write-room-6 c = simp length-set (omega arith)
-
-cast-put-word : tie.Need-cast-put-word
-cast-put-word c = search tests
-
-put-word-requires : tie.Need-put-word-requires
-put-word-requires c κs = simp length-set (omega arith)
+kept-2 : (c : tie.After-put-word2) → length (c .put-word2 .last .0) ≡ length (start (worded c) .args .room .now)
+kept-2 c = c .put-word2 .kept .0 ∙ simp length-set (kept (worded c))
 
 slice-write-room-7 : tie.Need-slice-write-room-7
 slice-write-room-7 c = omega (arith, kept (c .before .before))
@@ -48,22 +29,13 @@ same-length c = kept-2 (c .before .before)
 
 returns : tie.Need-returns
 returns c =
-    let s = c .before .before .before .before .before .before .before .before .before .before .args .s in
-    header-put _ s _ _ _ (c .before .before .before .before .before .before .before .before .before .before .pre) (c .before .before .before .before .before .before .put-word .ensures) (c .before .before .put-word2 .ensures)
+    let first = worded (c .before .before) in
+    header-put _ (start first .args .s) _ _ _ (start first .pre) (first .put-word .ensures)
+    (c .before .before .put-word2 .ensures)
 
 pub put-header-spec : {M : Type 1} → statement M
 put-header-spec =
-    tie.close
-    (tie.spec
-    slice-write-room
-    slice-write-room-2
-    slice-write-room-3
-    slice-write-room-4
-    slice-write-room-5
-    slice-write-room-6
-    cast-put-word
-    put-word-requires
-    slice-write-room-7
-    put-word-requires-2
-    same-length
-    returns)
+    tie.close (tie.spec (λ c. search tests) (λ c. simp length-set (omega arith))
+    (λ c. simp length-set (omega arith)) (λ c. simp length-set (omega arith))
+    (λ c. simp length-set (omega arith)) (λ c. simp length-set (omega arith)) (λ c. search tests)
+    (λ c κs. simp length-set (omega arith)) slice-write-room-7 put-word-requires-2 same-length returns)

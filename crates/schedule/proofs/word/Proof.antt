@@ -1,49 +1,32 @@
-use Prim.Native.Nat.{_+_, _<_}
+use Prim.Native.Nat.{ℕ, _+_, _<_}
 use native.Mathlib.Omega.{arith}
 use lib.ListN.{getD}
 use Rattle.machine.proofs.Tests.{tests}
 use Rattle.schedule.proofs.word.Statement.{statement}
 use Rattle.schedule.proofs.word.Tie as tie
 
-low-byte : (c : tie.After-shared-slice-known2) → getD (c .before .before .args .file .now) (c .before .before .args .i) 0 < 256
-low-byte c = omega (arith, c .shared-slice-known2 .given (c .before .before .args .i))
+abbrev byte : tie.After-shared-slice-known2 → ℕ → ℕ
+byte c i = getD (c .before .before .args .file .now) i 0
 
-high-byte : (c : tie.After-shared-slice-known2) → getD (c .before .before .args .file .now) (c .before .before .args .i + 1) 0 < 256
-high-byte c = omega (arith, c .shared-slice-known2 .given (c .before .before .args .i + 1))
-
-shared-slice-read-low : tie.Need-shared-slice-read-low
-shared-slice-read-low c = search tests
-
-add-high : tie.Need-add-high
-add-high c = search tests
-
-shared-slice-read-high : tie.Need-shared-slice-read-high
-shared-slice-read-high c = search tests
+bytes : (c : tie.After-shared-slice-known2)
+    → (byte c (c .before .before .args .i) < 256) × (byte c (c .before .before .args .i + 1) < 256)
+bytes c =
+    let i = c .before .before .args .i in
+    (omega (arith, c .shared-slice-known2 .given i), omega (arith, c .shared-slice-known2 .given (i + 1)))
 
 cast-result : tie.Need-cast-result
-cast-result c = omega (arith, low-byte c, high-byte c)
+cast-result c = omega (arith, bytes c .0, bytes c .1)
 
 cast-result-2 : tie.Need-cast-result-2
-cast-result-2 c = omega (arith, low-byte c, high-byte c)
+cast-result-2 c = omega (arith, bytes c .0, bytes c .1)
 
 mul-result : tie.Need-mul-result
-mul-result c = omega (arith, low-byte c, high-byte c)
+mul-result c = omega (arith, bytes c .0, bytes c .1)
 
 add-result : tie.Need-add-result
-add-result c = omega (arith, low-byte c, high-byte c)
-
-returns : tie.Need-returns
-returns c = search tests
+add-result c = omega (arith, bytes c .0, bytes c .1)
 
 pub word-spec : {M : Type 1} → statement M
 word-spec =
-    tie.close
-    (tie.spec
-    shared-slice-read-low
-    add-high
-    shared-slice-read-high
-    cast-result
-    cast-result-2
-    mul-result
-    add-result
-    returns)
+    tie.close (tie.spec (λ c. search tests) (λ c. search tests) (λ c. search tests) cast-result cast-result-2
+    mul-result add-result (λ c. search tests))

@@ -1,91 +1,75 @@
 -- What each test shows once it is passed, and from these the outcome at each return.
-use mathlib.Core.Path.{_≡_, sym, ap, _∙_}
-use mathlib.Core.Bool.{false, not}
+use mathlib.Core.{Path.{_≡_, sym, ap, _∙_}, Bool.{false, not}}
 use native.Mathlib.Omega.{arith}
-use lib.Dec.{ltb}
 use lib.ListN.{length}
-use borrow.Author.Tests.{lt-ltb, le-ltb}
-use Rattle.machine.specs.Refusals.{outsideLimits}
+use borrow.Author.Tests.{le-ltb}
+use Rattle.machine.{specs.Refusals.outsideLimits, proofs.Tests.tests}
 use Rattle.counting.specs.Counting.{anyBelow}
-use Rattle.file.specs.File.{mostEvents, fileLength, numberBad, writtenOf}
-use Rattle.machine.proofs.Tests.{tests}
-use Rattle.schedule.proofs.Bytes.{put-file}
-use Rattle.schedule.proofs.write.Statement.{statement}
+use Rattle.file.specs.File.{numberBad, writtenOf}
+use Rattle.schedule.proofs.{Bytes.put-file, write.Statement.statement}
 use Rattle.schedule.proofs.write.Tie as tie
 
 within : (c : tie.Else1) → outsideLimits (c .before .before .before .before .args .s) ≡ false
 within c = ap not (sym (c .before .permitted .ensures)) ∙ c .if1 .left
 
-few : (c : tie.Else2) → ltb mostEvents (length (c .before .before .before .before .before .before .args .events .now)) ≡ false
-few c = le-ltb _ _ (c .if2 .left)
+-- the start, where the codes have been tested
+abbrev start : tie.Else3 → tie.Start
+start c = c .before .before .before .before .before .before .before
 
-coded : (c : tie.Else3) → anyBelow (numberBad (c .before .before .before .before .before .before .before .args .events .now)) (length (c .before .before .before .before .before .before .before .args .events .now)) ≡ false
+coded : (c : tie.Else3) → let events = start c .args .events .now in anyBelow (numberBad events) (length events) ≡ false
 coded c = sym (c .before .before .bad-number .ensures) ∙ c .if3 .left
 
-roomy : (c : tie.Else4) → ltb (length (c .before .before .before .before .before .before .before .before .args .room .now)) (fileLength (length (c .before .before .before .before .before .before .before .before .args .events .now))) ≡ false
-roomy c = le-ltb _ _ (c .if4 .left)
-
 -- the room is as long as it was
-kept : (c : tie.After-put-header) → length (c .put-header .last .0) ≡ length (c .before .before .before .before .before .before .before .before .before .before .args .room .now)
+kept : (c : tie.After-put-header)
+    → length (c .put-header .last .0) ≡ length (start (c .before .before .before) .args .room .now)
 kept c = c .put-header .kept .0
-
-permitted-requires : tie.Need-permitted-requires
-permitted-requires c κs = search tests
 
 returns : tie.Need-returns
 returns c = rw (ap not (sym (c .before .permitted .ensures)) ∙ c .if1 .taken)
 
-bad-number-requires : tie.Need-bad-number-requires
-bad-number-requires c κs = search tests
-
 returns-2 : tie.Need-returns-2
-returns-2 c = rw (within (c .before .before), lt-ltb _ _ (c .if2 .taken))
+returns-2 c = search (tests, within (c .before .before))
 
 returns-3 : tie.Need-returns-3
-returns-3 c = rw (within (c .before .before .before), few (c .before), sym (c .before .before .bad-number .ensures) ∙ c .if3 .taken)
-
-mul-length : tie.Need-mul-length
-mul-length c = search tests
-
-add-length : tie.Need-add-length
-add-length c = search tests
+returns-3 c =
+    let second = c .before in
+    rw (
+      within (second .before .before),
+      le-ltb _ _ (second .if2 .left),
+      sym (second .before .bad-number .ensures) ∙ c .if3 .taken,
+    )
 
 returns-4 : tie.Need-returns-4
-returns-4 c = rw (within (c .before .before .before .before), few (c .before .before), coded (c .before), lt-ltb _ _ (c .if4 .taken))
-
-cast-put-header : tie.Need-cast-put-header
-cast-put-header c = search tests
-
-put-header-requires : tie.Need-put-header-requires
-put-header-requires c κs = search tests
+returns-4 c = search (tests, within (c .before .before .before .before), coded (c .before))
 
 put-events-requires : tie.Need-put-events-requires
-put-events-requires c κs = (omega (arith, kept (c .before .before .before), c .before .before .before .before .before .if4 .left), coded (c .before .before .before .before .before .before))
+put-events-requires c κs =
+    let headed = c .before .before .before in
+    let fourth = headed .before .before in
+    (omega (arith, kept headed, fourth .if4 .left), coded (fourth .before))
 
 same-length : tie.Need-same-length
 same-length c = c .before .before .put-events .kept .0 ∙ kept (c .before .before .before .before .before .before)
 
 returns-5 : tie.Need-returns-5
 returns-5 c =
-    rw (within (c .before .before .before .before .before .before .before .before .before .before .before .before), few (c .before .before .before .before .before .before .before .before .before .before), coded (c .before .before .before .before .before .before .before .before .before), roomy (c .before .before .before .before .before .before .before .before))
+    let headed = c .before .before .before .before .before .before in
+    let fourth = headed .before .before in
+    let third = fourth .before in
+    let second = third .before in
+    let a = start third .args in
+    rw (
+      within (second .before .before),
+      le-ltb _ _ (second .if2 .left),
+      coded third,
+      le-ltb _ _ (fourth .if4 .left),
+    )
     (ap (writtenOf _)
-    (put-file (c .before .before .before .before .before .before .before .before .before .before .before .before .before .before .before .before .args .s) (c .before .before .before .before .before .before .before .before .before .before .before .before .before .before .before .before .args .events .now) (c .before .before .before .before .before .before .before .before .before .before .before .before .before .before .before .before .args .room .now) _ _
-    (c .before .before .before .before .before .before .before .before .if4 .left) (c .before .before .before .before .before .before .put-header .ensures) (c .before .before .put-events .ensures)))
+    (put-file (a .s) (a .events .now) (a .room .now) _ _ (fourth .if4 .left) (headed .put-header .ensures)
+    (c .before .before .put-events .ensures)))
 
 pub write-spec : {M : Type 1} → statement M
 write-spec =
-    tie.close
-    (tie.spec
-    permitted-requires
-    returns
-    bad-number-requires
-    returns-2
-    returns-3
-    mul-length
-    add-length
-    returns-4
-    cast-put-header
-    put-header-requires
-    put-events-requires
-    same-length
-    returns-5)
+    tie.close (tie.spec (λ c κs. search tests) returns (λ c κs. search tests) returns-2 returns-3
+    (λ c. search tests) (λ c. search tests) returns-4 (λ c. search tests) (λ c κs. search tests)
+    put-events-requires same-length returns-5)

@@ -1,106 +1,87 @@
--- `number` puts the decimal: one digit at once, or the digits of a tenth and then the last one. The number itself falls at each call.
-use native.Mathlib.Omega.{arith}
-use lib.ListN.{length-set}
-use denote.Ref.{now}
-use Rattle.text.proofs.Digits.{one-digit-long, one-digit-longer, puts-one-digit, puts-one-digit-more}
-use borrow.Author.Needs.{needs}
+-- `number` puts the decimal: one digit at once, or the digits of a tenth and then the last one. The number itself falls
+-- at each call.
+use mathlib.Core.Path.{_≡_}
 use Prim.Native.Nat.{ℕ, _<_}
-use borrow.Fn.Kinds.{In}
-use borrow.Fn.PlainCycle.{Measures, is, falls, and}
+use native.Mathlib.Omega.{arith}
+use lib.ListN.{length, length-set}
+use borrow.Author.Needs.{needs}
+use borrow.Fn.{Kinds.In, PlainCycle.{Measures, is, falls, and}}
+use denote.Ref.{now}
+use Rattle.text.specs.Decimal.{decimal}
+use Rattle.text.proofs.Digits.{one-digit-long, one-digit-longer, puts-one-digit, puts-one-digit-more}
+use Rattle.text.proofs.+number.{statement, Tie.close}
 use Rattle.text.proofs.number.Reads as number
-use Rattle.text.proofs.number.Kinds as number-kinds
-use Rattle.text.proofs.+number.Lts-number as number-lts
-use Rattle.text.proofs.+number.{statement}
-use Rattle.text.proofs.+number.Tie.{close}
+use Rattle.text.proofs.number.Kinds as kinds
+use Rattle.text.proofs.+number.Lts-number as lts
 
-abbrev μ-number : Measures 1 number-kinds.ps ℕ
+abbrev μ-number : Measures 1 kinds.ps ℕ
 μ-number κs a = a .1 .1 .0
 
-abbrev number-at : ℕ → In 1 number-kinds.ps
-number-at t = and 1 number-kinds.ps (is 1 number-kinds.ps μ-number t) number.Pre
+abbrev number-at : ℕ → In 1 kinds.ps
+number-at t = and 1 kinds.ps (is 1 kinds.ps μ-number t) number.Pre
 
-abbrev number-below : ℕ → In 1 number-kinds.ps
-number-below t = and 1 number-kinds.ps (falls 1 number-kinds.ps _<_ μ-number t) number.Pre
+abbrev number-below : ℕ → In 1 kinds.ps
+number-below t = and 1 kinds.ps (falls 1 kinds.ps _<_ μ-number t) number.Pre
 
-number-add-out :
-    (t : ℕ) → number-lts.Need-add-out (number-below t, number.Post) (number-at t) number.Post
-number-add-out t c = search needs
+module _ (t : ℕ) where
+  -- ---- below 10: there is one digit
 
-number-cast-out :
-    (t : ℕ) → number-lts.Need-cast-out (number-below t, number.Post) (number-at t) number.Post
-number-cast-out t c = search needs
+  short : (c : lts.Then1 (number-below t, number.Post) (number-at t) number.Post)
+      → length (decimal (c .before .before .args .n)) ≡ 1
+  short c = one-digit-long (c .before .before .args .n) (c .if1 .taken)
 
-number-slice-write-out :
-    (t : ℕ) →
-    number-lts.Need-slice-write-out (number-below t, number.Post) (number-at t) number.Post
-number-slice-write-out t c = omega (arith, one-digit-long (c .before .before .args .n) (c .if1 .taken))
+  slice-write-out : lts.Need-slice-write-out (number-below t, number.Post) (number-at t) number.Post
+  slice-write-out c = omega (arith, short c)
 
-number-add-result :
-    (t : ℕ) → number-lts.Need-add-result (number-below t, number.Post) (number-at t) number.Post
-number-add-result t c = omega (arith, one-digit-long (c .before .before .args .n) (c .if1 .taken))
+  add-result : lts.Need-add-result (number-below t, number.Post) (number-at t) number.Post
+  add-result c = omega (arith, short c)
 
-number-same-length :
-    (t : ℕ) → number-lts.Need-same-length (number-below t, number.Post) (number-at t) number.Post
-number-same-length t c = simp length-set
+  same-length : lts.Need-same-length (number-below t, number.Post) (number-at t) number.Post
+  same-length c = simp length-set
 
-number-returns :
-    (t : ℕ) → number-lts.Need-returns (number-below t, number.Post) (number-at t) number.Post
-number-returns t c =
-    let a = c .before .before .args in
-    puts-one-digit (now (a .out)) (a .at) (a .n) (c .before .before .pre .1) (c .if1 .taken)
+  returns : lts.Need-returns (number-below t, number.Post) (number-at t) number.Post
+  returns c =
+      let start = c .before .before in
+      let a = start .args in
+      puts-one-digit (now (a .out)) (a .at) (a .n) (start .pre .1) (c .if1 .taken)
 
-number-number-requires :
-    (t : ℕ) →
-    number-lts.Need-number-requires (number-below t, number.Post) (number-at t) number.Post
-number-number-requires t c κs = omega (arith, one-digit-longer (c .before .before .before .args .n) (c .before .if1 .left))
+  -- ---- from 10 on: the digits of the tenth are put, and there is room for one more
 
-number-add-out-2 :
-    (t : ℕ) → number-lts.Need-add-out-2 (number-below t, number.Post) (number-at t) number.Post
-number-add-out-2 t c = omega arith
+  number-requires : lts.Need-number-requires (number-below t, number.Post) (number-at t) number.Post
+  number-requires c κs =
+      omega (arith, one-digit-longer (c .before .before .before .args .n) (c .before .if1 .left))
 
-number-cast-out-2 :
-    (t : ℕ) → number-lts.Need-cast-out-2 (number-below t, number.Post) (number-at t) number.Post
-number-cast-out-2 t c = omega arith
+  room : (c : lts.After-number (number-below t, number.Post) (number-at t) number.Post)
+      → c .number .result < length (c .number .last .0)
+  room c =
+      let longer = c .before .before in
+      let start = longer .before .before in
+      let more = one-digit-longer (start .args .n) (longer .if1 .left) in
+      omega (arith, c .number .kept .0, c .number .ensures .past, start .pre .1, more)
 
-number-slice-write-out-2 : (t : ℕ) → number-lts.Need-slice-write-out-2 (
-  number-below t,
-  number.Post,
-) (number-at t) number.Post
-number-slice-write-out-2 t c = omega (arith, c .before .before .number .kept .0, c .before .before .number .ensures .past, c .before .before .before .before .before .before .pre .1, one-digit-longer (c .before .before .before .before .before .before .args .n) (c .before .before .before .before .if1 .left))
+  slice-write-out-2 : lts.Need-slice-write-out-2 (number-below t, number.Post) (number-at t) number.Post
+  slice-write-out-2 c = room (c .before .before)
 
-number-add-result-2 :
-    (t : ℕ) → number-lts.Need-add-result-2 (number-below t, number.Post) (number-at t) number.Post
-number-add-result-2 t c = omega (arith, c .before .before .before .before .before .before .good, c .before .before .number .kept .0, c .before .before .number .ensures .past, c .before .before .before .before .before .before .pre .1, one-digit-longer (c .before .before .before .before .before .before .args .n) (c .before .before .before .before .if1 .left))
+  add-result-2 : lts.Need-add-result-2 (number-below t, number.Post) (number-at t) number.Post
+  add-result-2 c =
+      let put = c .before .before in
+      omega (arith, put .before .before .before .before .good, put .number .kept .0, room put)
 
-number-same-length-2 :
-    (t : ℕ) →
-    number-lts.Need-same-length-2 (number-below t, number.Post) (number-at t) number.Post
-number-same-length-2 t c = simp length-set (c .before .before .number .kept .0)
+  same-length-2 : lts.Need-same-length-2 (number-below t, number.Post) (number-at t) number.Post
+  same-length-2 c = simp length-set (c .before .before .number .kept .0)
 
-number-returns-2 :
-    (t : ℕ) → number-lts.Need-returns-2 (number-below t, number.Post) (number-at t) number.Post
-number-returns-2 t c =
-    let a = c .before .before .before .before .before .before .args in
-    puts-one-digit-more (now (a .out)) (a .at) (a .n) (c .before .before .before .before .before .before .pre .1) (c .before .before .number .result) (c .before .before .number .last .0) (c .before .before .before .before .if1 .left) (c .before .before .number .ensures)
+  returns-2 : lts.Need-returns-2 (number-below t, number.Post) (number-at t) number.Post
+  returns-2 c =
+      let put = c .before .before in
+      let longer = put .before .before in
+      let start = longer .before .before in
+      let a = start .args in
+      puts-one-digit-more (now (a .out)) (a .at) (a .n) (start .pre .1) (put .number .result) (put .number .last .0)
+      (longer .if1 .left) (put .number .ensures)
 
 pub +number-spec : {M : Type 1} → statement M
 +number-spec =
-    close
-    μ-number
-    λ t. number-lts.spec
-    (number-below t, number.Post)
-    (number-at t)
-    number.Post
-    (number-add-out t)
-    (number-cast-out t)
-    (number-slice-write-out t)
-    (number-add-result t)
-    (number-same-length t)
-    (number-returns t)
-    (number-number-requires t)
-    (number-add-out-2 t)
-    (number-cast-out-2 t)
-    (number-slice-write-out-2 t)
-    (number-add-result-2 t)
-    (number-same-length-2 t)
-    (number-returns-2 t)
+    close μ-number λ t. lts.spec (number-below t, number.Post) (number-at t) number.Post
+    (λ c. search needs) (λ c. search needs) (slice-write-out t) (add-result t) (same-length t) (returns t)
+    (number-requires t) (λ c. omega arith) (λ c. omega arith)
+    (slice-write-out-2 t) (add-result-2 t) (same-length-2 t) (returns-2 t)

@@ -3,12 +3,10 @@ use mathlib.Core.Path.{_≡_, sym, _∙_}
 use Prim.Native.Nat.{_-_, _≤_}
 use native.Mathlib.Omega.{arith}
 use borrow.Author.Needs.{needs}
-use lib.ListN.{length, take, length-set}
+use lib.{ListN.{length, take, length-set}, Seq.take-all}
 use denote.Ref.{now}
-use lib.Seq.{take-all}
 use Rattle.text.specs.Put.{put}
-use Rattle.text.proofs.Putting.{put-nothing, put-more}
-use Rattle.text.proofs.copy.Statement.{statement}
+use Rattle.text.proofs.{Putting.{put-nothing, put-more}, copy.Statement.statement}
 use Rattle.text.proofs.copy.Tie as tie
 
 abbrev Inv-loop : tie.InvT-loop
@@ -20,53 +18,29 @@ abbrev μ-loop : tie.MeasureT-loop
 loop-holds : tie.Need-loop-holds Inv-loop μ-loop
 loop-holds c = (search needs, sym (put-nothing _ _), search needs)
 
-shared-slice-read-out : tie.Need-shared-slice-read-out Inv-loop μ-loop
-shared-slice-read-out c = search needs
-
-add-out : tie.Need-add-out Inv-loop μ-loop
-add-out c = search needs
-
-slice-write-out : tie.Need-slice-write-out Inv-loop μ-loop
-slice-write-out c = omega arith
-
-add-i : tie.Need-add-i Inv-loop μ-loop
-add-i c = search needs
-
-loop-less : tie.Need-loop-less Inv-loop μ-loop
-loop-less c = search needs
-
 loop-again : tie.Need-loop-again Inv-loop μ-loop
 loop-again c =
     let a = c .before .before .before .args in
     let i = c .before .before .loop .i in
-    let inv = c .before .before .loop .inv in
-    (search needs, rw (inv .1) (put-more (now (a .out)) (a .at) (now (a .text)) i (search needs) (search needs)), simp length-set (inv .2))
-
-add-result : tie.Need-add-result Inv-loop μ-loop
-add-result c = search needs
+    let inv = c .before .before .loop .inv in (
+      search needs,
+      rw (inv .1) (put-more (now (a .out)) (a .at) (now (a .text)) i (search needs) (search needs)),
+      simp length-set (inv .2),
+    )
 
 same-length : tie.Need-same-length Inv-loop μ-loop
 same-length c = c .before .loop .inv .2
 
 returns : tie.Need-returns Inv-loop μ-loop
 returns c =
-    let a = c .before .before .args in
-    let all : c .before .loop .i ≡ length (now (a .text)) = omega arith in
-    record { past = search needs; room-after = c .before .loop .inv .1 ∙ rw (take-all (c .before .loop .i) (now (a .text)) (omega arith)) }
+    let text = now (c .before .before .args .text) in
+    let all : c .before .loop .i ≡ length text = omega arith in
+    record {
+      past = search needs;
+      room-after = c .before .loop .inv .1 ∙ rw (take-all (c .before .loop .i) text (omega arith));
+    }
 
 pub copy-spec : {M : Type 1} → statement M
 copy-spec =
-    tie.close
-    (tie.spec
-    Inv-loop
-    μ-loop
-    loop-holds
-    shared-slice-read-out
-    add-out
-    slice-write-out
-    add-i
-    loop-less
-    loop-again
-    add-result
-    same-length
-    returns)
+    tie.close (tie.spec Inv-loop μ-loop loop-holds (λ c. search needs) (λ c. search needs) (λ c. omega arith)
+    (λ c. search needs) (λ c. search needs) loop-again (λ c. search needs) same-length returns)
