@@ -14,7 +14,7 @@ use Rattle.machine.specs.declared.{Settings.Settings, View.View, Record.Record,
 use Rattle.machine.proofs.Deciding.{no-case}
 use Rattle.machine.proofs.Limits.{limits}
 use Rattle.machine.proofs.OneAccess.{access-needed}
-use Rattle.machine.proofs.Sound as sound
+use Rattle.machine.proofs.Fitting as fitting
 use Rattle.rules.specs.Decision.{Sees, seenVerdict, Touched, touched, touching}
 use Rattle.rules.proofs.Rows.{Long, none-short}
 
@@ -50,5 +50,5 @@ module _ {s : Settings} {kind : Kind} {p : ℕ} {seen : View} {m : Memory} (ok :
       → new ≡ record { state = next s kind p (seen .own .state) v } → T (recordInRange s new)
   next-in-range v left new read stands =
       let value = ap (λ (t : Touched). t .value) read in
-      let good = sound.next-in-range s (limits s (ok .limits)) kind p (seen .own .state) m (ok .moment) (ok .own-in-range) in
+      let good = fitting.next-in-range s (limits s (ok .limits)) kind p (seen .own .state) m (ok .moment) (ok .own-in-range) in
       rw (stands, value, is) good
