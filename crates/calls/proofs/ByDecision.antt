@@ -15,8 +15,7 @@ use Rattle.machine.specs.declared.{Settings.Settings, Record.Record, Access.Acc
 use Rattle.machine.specs.declared.Answer.{Answer}
 use Rattle.machine.specs.declared.Access.the-variants.{NoAccess, XRead, XWritten, MarkRead, MarkWritten}
 use Rattle.counting.proofs.Searching.{none-bad-all}
-use Rattle.rules.specs.Decision.{Sees, seenVerdict, Decision, decisionBy, decision}
-use Rattle.rules.specs.Decision.{seenSetupVerdict, Preparation, preparationBy, preparation}
+use Rattle.rules.specs.Decision.{Sees, seenVerdict, Decision, decisionBy, decision, seenSetupVerdict, Preparation, preparationBy, preparation}
 use Rattle.rules.proofs.Rows.{lent-passes}
 use Rattle.rows.specs.Rows as rows
 

@@ -1,11 +1,5 @@
 -- `setup`: look, decide by `rules`, make the records idle.
-use Rattle.walks.proofs.Prelude.{refl, List, [], _∷_, lit<, length}
-use Rattle.walks.proofs.Prelude.{URA, fullShare, Model, Heap, Lfts, Shares, GhostRules, Running, givenOf, Given, named}
-use Rattle.walks.proofs.Prelude.{RefT, Room, owed, owes}
-use Rattle.walks.proofs.Prelude.{emp, id⊢, factI, _$_, !, by, move, agg, of-opd, lit, and-then, no-more}
-use Rattle.walks.proofs.Prelude.{Args, Lasts, AllReal, Real, typed, Body, hears, calls, exits, meets, leaves, copies}
-use Rattle.walks.proofs.Prelude.{copies-all, copies-field, points-to, refers, sets, lands-in, gives, under}
-use Rattle.walks.proofs.Prelude.{lends-shared, shared-back}
+use Rattle.walks.proofs.Prelude.{refl, List, [], _∷_, lit<, length, URA, fullShare, Model, Heap, Lfts, Shares, GhostRules, Running, givenOf, Given, named, RefT, Room, owed, owes, emp, id⊢, factI, _$_, !, by, move, agg, of-opd, lit, and-then, no-more, Args, Lasts, AllReal, Real, typed, Body, hears, calls, exits, meets, leaves, copies, copies-all, copies-field, points-to, refers, sets, lands-in, gives, under, lends-shared, shared-back}
 use Rattle.machine.specs.Memory.{Memory, viewOf}
 use Rattle.machine.specs.declared.{Record.Record, Settings.Settings, TaskId.TaskId, View.View}
 use Rattle.machine.proofs.TaskId as I

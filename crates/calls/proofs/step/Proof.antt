@@ -1,11 +1,5 @@
 -- `step`: look, decide by `rules`, put back.
-use Rattle.walks.proofs.Prelude.{refl, List, [], _∷_, _<_, _^_, arith, length}
-use Rattle.walks.proofs.Prelude.{URA, fullShare, Model, Heap, Lfts, Shares, GhostRules, Running, givenOf, Given, named}
-use Rattle.walks.proofs.Prelude.{RefT, Room, owed}
-use Rattle.walks.proofs.Prelude.{emp, id⊢, factI, _$_, !, by, move, of-opd, un, and-then, no-more}
-use Rattle.walks.proofs.Prelude.{Args, Lasts, AllReal, Real, typed, Body, hears, calls, exits, meets, leaves, copies}
-use Rattle.walks.proofs.Prelude.{copies-all, copies-field, points-to, refers, sets, lands-in, gives, under}
-use Rattle.walks.proofs.Prelude.{lends-shared, shared-back}
+use Rattle.walks.proofs.Prelude.{refl, List, [], _∷_, _<_, _^_, arith, length, URA, fullShare, Model, Heap, Lfts, Shares, GhostRules, Running, givenOf, Given, named, RefT, Room, owed, emp, id⊢, factI, _$_, !, by, move, of-opd, un, and-then, no-more, Args, Lasts, AllReal, Real, typed, Body, hears, calls, exits, meets, leaves, copies, copies-all, copies-field, points-to, refers, sets, lands-in, gives, under, lends-shared, shared-back}
 use lib.ListN.{set, length-set}
 use Rattle.machine.specs.Memory.{Memory, viewOf}
 use Rattle.machine.specs.declared.{Record.Record, Settings.Settings, TaskId.TaskId, View.View, Event.Event}
