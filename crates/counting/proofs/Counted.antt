@@ -1,19 +1,10 @@
 -- `count` is the length of the list of those that pass, and `anyBelow` and `firstBad` find what they say.
-use mathlib.Core.Path.{_≡_, refl, ap}
-use mathlib.Core.Logic.{_⊎_, inl, inr, _↔_}
-use mathlib.Core.Bool.{Bool, true, false}
-use mathlib.Core.List.{List, [], _∷_}
+use mathlib.Core.{Path.{_≡_, refl, ap}, Logic.{_⊎_, inl, inr}, Bool.{Bool, true, false}, List.{[], _∷_}}
 use Prim.Native.Nat.{ℕ, zero, suc, _<_}
-use native.Mathlib.Nat.{not-suc-le-zero}
-use native.Mathlib.Decide.{ℕ-discrete}
-use native.Mathlib.Omega.{arith}
+use native.Mathlib.{Nat.not-suc-le-zero, Decide.ℕ-discrete, Omega.arith}
 use lib.Dec.{T}
-use lib.ListN.{length}
-use Rattle.counting.specs.Counting.{tick, count}
-use Rattle.counting.specs.Counted.{Among, Falling, Counted, CountCounts, AnyFinds, FirstBadFirst}
-use Rattle.counting.proofs.Tested.{Tested}
-use Rattle.counting.proofs.Searching.{first-bad-first}
-use Rattle.counting.proofs.Some.{some-below}
+use Rattle.counting.specs.{Counting.{tick, count}, Counted.{Among, Counted, CountCounts, AnyFinds, FirstBadFirst}}
+use Rattle.counting.proofs.{Searching.first-bad-first, Some.some-below}
 
 -- one number more: it joins the list where it passes
 more : (test : ℕ → Bool) (n many : ℕ) (b : Bool) → test n ≡ b → Counted test n many → Counted test (suc n) (tick b many)
@@ -53,7 +44,12 @@ more test n many false is c = record {
 
 pub counted : CountCounts
 unfolding count
-counted test zero = record { those = []; once = tt; exactly = λ i. (λ among. absurd among, λ h. absurd (not-suc-le-zero (h .0))); so-many = refl }
+counted test zero = record {
+  those = [];
+  once = tt;
+  exactly = λ i. (λ among. absurd among, λ h. absurd (not-suc-le-zero (h .0)));
+  so-many = refl;
+}
 counted test (suc n) = more test n (count test n) (test n) refl (counted test n)
 
 pub any-finds : AnyFinds

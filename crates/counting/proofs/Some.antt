@@ -1,11 +1,7 @@
 -- Whether some number below n passes a test, found by looking from 0 on.
-use mathlib.Core.Path.{_≡_, refl, sym, _∙_, ap}
-use mathlib.Core.Bool.{Bool, true, false, _||_}
-use mathlib.Core.Logic.{_⊎_, inl, inr, ⊎-elim}
+use mathlib.Core.{Path.{_≡_, refl, sym, _∙_, ap}, Bool.{Bool, true, false, _||_}, Logic.{_⊎_, inl, inr, ⊎-elim}}
 use Prim.Native.Nat.{ℕ, zero, suc, _+_, _<_}
-use native.Mathlib.Nat.{eq-or-lt-of-le, le-of-suc-le-suc, not-suc-le-zero}
-use native.Mathlib.Numerals.{add-one}
-use native.Mathlib.Decide.{ℕ-discrete}
+use native.Mathlib.{Nat.{eq-or-lt-of-le, le-of-suc-le-suc, not-suc-le-zero}, Numerals.add-one, Decide.ℕ-discrete}
 use native.Mathlib.Omega.{arith}
 use Rattle.counting.specs.Counting.{anyBelow}
 use Rattle.counting.proofs.Tested.{Tested, either, meaning, never}
@@ -31,9 +27,11 @@ pub none-below : (test : ℕ → Bool) (n : ℕ) → anyBelow test n ≡ false �
 none-below test zero none i l = absurd (not-suc-le-zero l)
 none-below test (suc n) none i l = go (λ e below. none-below test n e i below) (anyBelow test n) refl none
   where
-    go : (anyBelow test n ≡ false → i < n → test i ≡ false) → (b : Bool) → anyBelow test n ≡ b → b || test n ≡ false → test i ≡ false
+    go : (anyBelow test n ≡ false → i < n → test i ≡ false) → (b : Bool) → anyBelow test n ≡ b → b || test n ≡ false
+        → test i ≡ false
     go before true e none = cc
-    go before false e none = ⊎-elim (λ same. ap test same ∙ none) (λ below. before e below) (eq-or-lt-of-le (le-of-suc-le-suc l))
+    go before false e none = ⊎-elim (λ same. ap test same ∙ none) (λ below. before e below)
+        (eq-or-lt-of-le (le-of-suc-le-suc l))
 
 -- and where each does not, none does
 pub each-none : (test : ℕ → Bool) (n : ℕ) → ((i : ℕ) → i < n → test i ≡ false) → anyBelow test n ≡ false

@@ -1,7 +1,5 @@
 -- A test of the definitions and the plain statement that it decides, and how such tests are put together.
-use mathlib.Core.Path.{_≡_}
-use mathlib.Core.Logic.{_⊎_, inl, inr, ⊎-elim, _↔_}
-use mathlib.Core.Bool.{Bool, true, false, not, _&&_, _||_}
+use mathlib.Core.{Path._≡_, Logic.{_⊎_, inl, inr, ⊎-elim, _↔_}, Bool.{Bool, true, false, not, _&&_, _||_}}
 use Prim.Native.Nat.{ℕ, _≤_, _<_}
 use lib.Dec.{T, eqb, leb, ltb, T-not, not-T, leb→le, le→leb, ltb→lt, lt→ltb, eqb→eq}
 use borrow.Author.Tests.{eq-eqb}

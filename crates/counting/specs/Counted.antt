@@ -1,12 +1,8 @@
 -- What `count`, `anyBelow` and `firstBad` are of a test on the numbers below n, without their definitions.
 -- Theorems: `counted`, `some-below`, `first-bad-first`.
-use mathlib.Core.Path.{_≡_}
-use mathlib.Core.Logic.{_⊎_, _↔_}
-use mathlib.Core.Bool.{Bool, false}
-use mathlib.Core.List.{List, [], _∷_}
+use mathlib.Core.{Path._≡_, Logic.{_⊎_, _↔_}, Bool.{Bool, false}, List.{List, [], _∷_}}
 use Prim.Native.Nat.{ℕ, _≤_, _<_}
-use lib.Dec.{T}
-use lib.ListN.{length}
+use lib.{Dec.T, ListN.length}
 use Rattle.counting.specs.Counting.{count, anyBelow, firstBad}
 
 -- i is one of the list

@@ -1,23 +1,17 @@
 -- An accepted file, read event by event and written back, gives the same bytes.
-use mathlib.Core.Path.{_≡_, refl, sym, ap, _∙_, subst}
-use mathlib.Core.Bool.{Bool, true, false, _&&_}
+use mathlib.Core.{Path.{_≡_, refl, sym, ap, _∙_, subst}, Bool.false}
 use mathlib.Core.List.{List, [], _∷_, _++_, append-assoc, append-nil}
 use Prim.Native.Nat.{ℕ, zero, suc, _+_, _≤_, _<_}
-use native.Mathlib.Nat.{add-zero}
-use native.Mathlib.Numerals.{add-one}
-use native.Mathlib.Omega.{arith}
-use lib.Dec.{T, ltb}
-use lib.ListN.{length, getD, drop, drop-of-length-le}
-use lib.Seq.{drop-cons}
-use borrow.Author.Tests.{ltb-false, eqb-true}
-use Rattle.machine.specs.Refusals.{first}
-use Rattle.counting.specs.Counting.{anyBelow}
-use Rattle.file.specs.File.{eventNumber, readingSaid, fileLength, byteAt, lettersRight, settingsOf, countOf, codeAt, eventAt, codeBad, headerCases, Read, headerBytes, codeIn, eventBytes, eventsBytes, fileBytes, numberBad, writing}
-use Rattle.machine.specs.declared.Verdict.the-variants.{Accepted}
+use native.Mathlib.{Nat.add-zero, Numerals.add-one, Omega.arith}
+use lib.{Dec.{T, ltb}, ListN.{length, getD, drop, drop-of-length-le}, Seq.drop-cons}
+use borrow.Author.Tests.{ltb-false}
+use Rattle.machine.specs.{Refusals.first, declared.Verdict.the-variants.Accepted}
+use Rattle.counting.{specs.Counting.anyBelow, proofs.Some.{none-below, each-none}}
+use Rattle.file.specs.File.{eventNumber, readingSaid, fileLength, byteAt, settingsOf, countOf, codeAt, eventAt}
+use Rattle.file.specs.File.{codeBad, headerCases, Read, headerBytes, codeIn, eventBytes, eventsBytes, fileBytes}
+use Rattle.file.specs.File.{numberBad, writing}
 use Rattle.file.specs.RoundTrip.{eventsRead, Bytes, FileComesBack}
-use Rattle.file.proofs.Numbers.{low-of-word, high-of-word, event-of-bytes}
-use Rattle.counting.proofs.Some.{none-below, each-none}
-use Rattle.file.proofs.Refusing.{letters-tested}
+use Rattle.file.proofs.{Numbers.{low-of-word, high-of-word, event-of-bytes}, Refusing.letters-tested}
 use Rattle.file.proofs.Writes.{Writable, filled, writable-written}
 use Rattle.file.proofs.Headers.{Header, header-accepted, Accepts, file-accepted, reading-given}
 
@@ -59,9 +53,11 @@ module _ (file : List ℕ) (bytes : Bytes file) (good : Header file) where
 
 -- ---- the events that a reader gives
 
-module _ (file : List ℕ) (passes : first (headerCases file []) ≡ Accepted) (codes : anyBelow (codeBad file) (countOf file) ≡ false) where
+module _ (file : List ℕ) (passes : first (headerCases file []) ≡ Accepted)
+    (codes : anyBelow (codeBad file) (countOf file) ≡ false) where
   -- one event after the other
-  read-next : (at n : ℕ) → at < countOf file → eventsRead file at (suc n) ≡ eventNumber (eventAt file at) ∷ eventsRead file (at + 1) n
+  read-next : (at n : ℕ) → at < countOf file
+      → eventsRead file at (suc n) ≡ eventNumber (eventAt file at) ∷ eventsRead file (at + 1) n
   read-next at n l =
       ap (λ (read : Read). readingSaid (read .answer) .values ++ eventsRead file (read .at) n)
       (reading-given file passes at l (none-below (codeBad file) (countOf file) codes at l))
@@ -70,7 +66,8 @@ module _ (file : List ℕ) (passes : first (headerCases file []) ≡ Accepted) (
   length-read zero at fits = refl
   length-read (suc n) at fits = ap length (read-next at n (omega arith)) ∙ ap suc (length-read n (at + 1) (omega arith))
 
-  pub getD-read : (n at i : ℕ) → at + n ≤ countOf file → i < n → getD (eventsRead file at n) i 0 ≡ eventNumber (eventAt file (at + i))
+  pub getD-read : (n at i : ℕ) → at + n ≤ countOf file → i < n
+      → getD (eventsRead file at n) i 0 ≡ eventNumber (eventAt file (at + i))
   getD-read zero at i fits l = let none : ⊥ = omega arith in absurd none
   getD-read (suc n) at zero fits l = ap (λ (l : List ℕ). getD l 0 0) (read-next at n (omega arith)) ∙ rw add-zero
   getD-read (suc n) at (suc i) fits l =
@@ -80,17 +77,21 @@ module _ (file : List ℕ) (passes : first (headerCases file []) ≡ Accepted) (
       ∙ ap (λ (j : ℕ). eventNumber (eventAt file j)) same
 
   module _ (bytes : Bytes file) (whole : length file ≡ fileLength (countOf file)) where
-    event-is : (at : ℕ) → at < countOf file → eventBytes (eventNumber (eventAt file at)) ≡ elements file (fileLength at) 3
+    event-is : (at : ℕ) → at < countOf file
+        → eventBytes (eventNumber (eventAt file at)) ≡ elements file (fileLength at) 3
     event-is at l =
         event-of-bytes (codeAt file at) (byteAt file (fileLength at + 1)) (byteAt file (fileLength at + 1 + 1))
         (ltb-false _ _ (none-below (codeBad file) (countOf file) codes at l)) (bytes _) (bytes _)
 
-    event-back : (at : ℕ) → at < countOf file → eventBytes (eventNumber (eventAt file at)) ++ drop (fileLength (at + 1)) file ≡ drop (fileLength at) file
+    event-back : (at : ℕ) → at < countOf file
+        → eventBytes (eventNumber (eventAt file at)) ++ drop (fileLength (at + 1)) file ≡ drop (fileLength at) file
     event-back at l =
         let next : fileLength at + 3 ≡ fileLength (at + 1) = omega arith in
-        ap (λ (b : List ℕ). b ++ drop (fileLength (at + 1)) file) (event-is at l) ∙ sym (drop-elements file (fileLength at) 3 (omega arith) ∙ rw next)
+        ap (λ (b : List ℕ). b ++ drop (fileLength (at + 1)) file) (event-is at l)
+        ∙ sym (drop-elements file (fileLength at) 3 (omega arith) ∙ rw next)
 
-    events-back : (n at : ℕ) → at + n ≤ countOf file → eventsBytes (eventsRead file at n) ++ drop (fileLength (at + n)) file ≡ drop (fileLength at) file
+    events-back : (n at : ℕ) → at + n ≤ countOf file
+        → eventsBytes (eventsRead file at n) ++ drop (fileLength (at + n)) file ≡ drop (fileLength at) file
     events-back zero at fits = rw add-zero
     events-back (suc n) at fits =
         let same : at + 1 + n ≡ at + suc n = omega arith in
@@ -106,7 +107,8 @@ module _ (file : List ℕ) (passes : first (headerCases file []) ≡ Accepted) (
     all-back : eventsBytes (eventsRead file 0 (countOf file)) ≡ drop 11 file
     all-back =
         sym (append-nil (eventsBytes (eventsRead file 0 (countOf file))))
-        ∙ ap (λ (l : List ℕ). eventsBytes (eventsRead file 0 (countOf file)) ++ l) (sym (drop-of-length-le file {i = fileLength (0 + countOf file)} (omega arith)))
+        ∙ ap (λ (l : List ℕ). eventsBytes (eventsRead file 0 (countOf file)) ++ l)
+        (sym (drop-of-length-le file {i = fileLength (0 + countOf file)} (omega arith)))
         ∙ events-back (countOf file) 0 (omega arith)
 
     -- and no code of theirs is above 2
@@ -120,7 +122,8 @@ module _ (file : List ℕ) (passes : first (headerCases file []) ≡ Accepted) (
 
 -- ---- the theorem
 
-module _ (file : List ℕ) (bytes : Bytes file) (passes : first (headerCases file []) ≡ Accepted) (codes : anyBelow (codeBad file) (countOf file) ≡ false) where
+module _ (file : List ℕ) (bytes : Bytes file) (passes : first (headerCases file []) ≡ Accepted)
+    (codes : anyBelow (codeBad file) (countOf file) ≡ false) where
   good : Header file
   good = header-accepted file passes
 
@@ -130,19 +133,23 @@ module _ (file : List ℕ) (bytes : Bytes file) (passes : first (headerCases fil
   bytes-back : fileBytes (settingsOf file) (eventsRead file 0 (countOf file)) ≡ file
   bytes-back =
       ap (λ (n : ℕ). headerBytes (settingsOf file) n ++ eventsBytes (eventsRead file 0 (countOf file))) count-read
-      ∙ ap (λ (l : List ℕ). headerBytes (settingsOf file) (countOf file) ++ l) (all-back file passes codes bytes (good .whole))
+      ∙ ap (λ (l : List ℕ). headerBytes (settingsOf file) (countOf file) ++ l)
+      (all-back file passes codes bytes (good .whole))
       ∙ header-back file bytes good
 
   writable : Writable (settingsOf file) (eventsRead file 0 (countOf file))
   writable = record {
     limits = good .limits;
     few = omega (arith, count-read, good .few);
-    codes = ap (anyBelow (numberBad (eventsRead file 0 (countOf file)))) count-read ∙ codes-read file passes codes bytes (good .whole);
+    codes = ap (anyBelow (numberBad (eventsRead file 0 (countOf file)))) count-read
+        ∙ codes-read file passes codes bytes (good .whole);
   }
 
-  written-back : (room : List ℕ) → length file ≤ length room → writing (settingsOf file) (eventsRead file 0 (countOf file)) room ≡ filled file room
+  written-back : (room : List ℕ) → length file ≤ length room
+      → writing (settingsOf file) (eventsRead file 0 (countOf file)) room ≡ filled file room
   written-back room =
-      subst (λ (f : List ℕ). length f ≤ length room → writing (settingsOf file) (eventsRead file 0 (countOf file)) room ≡ filled f room) bytes-back
+      subst (λ (f : List ℕ). length f ≤ length room
+      → writing (settingsOf file) (eventsRead file 0 (countOf file)) room ≡ filled f room) bytes-back
       (writable-written (settingsOf file) (eventsRead file 0 (countOf file)) room writable)
 
 pub file-comes-back : FileComesBack

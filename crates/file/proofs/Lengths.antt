@@ -1,6 +1,5 @@
 -- How many bytes a schedule has.
-use mathlib.Core.Path.{_≡_, refl}
-use mathlib.Core.List.{List, [], _∷_}
+use mathlib.Core.{Path.{_≡_, refl}, List.{List, [], _∷_}}
 use Prim.Native.Nat.{ℕ, _*_}
 use native.Mathlib.Omega.{arith}
 use lib.ListN.{length}

@@ -1,6 +1,5 @@
 -- 16 bits and event numbers, taken apart into bytes and put together again.
-use mathlib.Core.Path.{_≡_, refl, ap, _∙_}
-use mathlib.Core.List.{List, [], _∷_}
+use mathlib.Core.{Path.{_≡_, refl, ap, _∙_}, List.{List, [], _∷_}}
 use Prim.Native.Nat.{ℕ, zero, suc, _+_, _*_, _/_, _%_, _≤_, _<_}
 use native.Mathlib.Omega.{arith}
 use lib.ListN.{getD}
@@ -20,7 +19,8 @@ high-byte low high l h = ap (λ (n : ℕ). n % 256) (above-byte low high l) ∙ 
 pub low-of-word : (file : List ℕ) (i : ℕ) → byteAt file i < 256 → wordAt file i % 256 ≡ byteAt file i
 low-of-word file i l = omega arith
 
-pub high-of-word : (file : List ℕ) (i : ℕ) → byteAt file i < 256 → byteAt file (i + 1) < 256 → wordAt file i / 256 % 256 ≡ byteAt file (i + 1)
+pub high-of-word : (file : List ℕ) (i : ℕ) → byteAt file i < 256 → byteAt file (i + 1) < 256
+    → wordAt file i / 256 % 256 ≡ byteAt file (i + 1)
 high-of-word file i l h = high-byte (byteAt file i) (byteAt file (i + 1)) l h
 
 -- and 16 bits written in two bytes are those again
@@ -46,4 +46,5 @@ event-of-bytes code low high c l h =
 -- and those bytes that number
 pub bytes-of-event : (number : ℕ) → codeIn number ≤ 2
     → codeOf (kindOf (codeIn number)) * 65536 + (number % 256 + 256 * (number / 256 % 256)) ≡ number
-bytes-of-event number c = ap (λ (code : ℕ). code * 65536 + (number % 256 + 256 * (number / 256 % 256))) (kind-code (codeIn number) c) ∙ omega arith
+bytes-of-event number c = ap (λ (code : ℕ). code * 65536 + (number % 256 + 256 * (number / 256 % 256)))
+    (kind-code (codeIn number) c) ∙ omega arith

@@ -1,42 +1,31 @@
 -- Opening, the next event and the writer are refused exactly by the lines of their tables, and answer what is promised.
-use mathlib.Core.Path.{_≡_, refl, sym, ap, _∙_}
-use mathlib.Core.Logic.{_⊎_, inl, inr, _↔_}
-use mathlib.Core.Bool.{Bool}
-use mathlib.Core.List.{List, [], _∷_}
+use mathlib.Core.{Path.{_≡_, refl, ap, _∙_}, Logic.{inl, inr}, List.{List, [], _∷_}}
 use Prim.Native.Nat.{ℕ, zero, suc, _+_, _*_, _/_, _≤_, _<_}
-use native.Mathlib.Nat.{not-suc-le-zero}
-use native.Mathlib.Decide.{ℕ-discrete}
-use native.Mathlib.Omega.{arith}
-use lib.ListN.{length, getD, drop, replicate}
-use lib.Seq.{drop-at}
-use Rattle.machine.specs.Refusals.{Case, first}
-use Rattle.machine.specs.Answers.{Said}
-use Rattle.machine.specs.Ranges.{WithinLimits}
-use Rattle.machine.specs.Refusing.{Line, RefusedExactly}
-use Rattle.machine.specs.Calls.{eventOf}
-use Rattle.machine.specs.declared.Settings.{Settings}
-use Rattle.machine.specs.declared.Refusal.{Refusal}
-use Rattle.machine.specs.declared.Verdict.{Verdict}
-use Rattle.machine.specs.declared.Verdict.the-variants.{Accepted}
-use Rattle.machine.specs.declared.Reading.{Reading}
-use Rattle.counting.proofs.Tested.{Tested, below, most, same, both, either, fails, meaning, never}
-use Rattle.counting.proofs.Some.{some-below}
-use Rattle.machine.proofs.Limits.{limits-tested}
-use Rattle.machine.proofs.Deciding.{Are, refused-exactly, accepted-verdict, refusal-keeps}
-use Rattle.counting.specs.Counting.{anyBelow}
-use Rattle.file.specs.File.{lettersRight, versionOf, settingsOf, countOf, codeAt, taskAt, eventAt, codeBad, headerCases, codeCases, openVerdict, openingBy, opening, kindOf, eventCases, eventVerdict, readBy, reading, fileLength, fileBytes, numberBad, writeCases, writeVerdict, writtenBy, writing, openingSaid, readingSaid, writingSaid}
-use Rattle.file.specs.Refusing.{byte, sixteen, headerLines, codeLines, openLines, eventLines, nextLines, writeLines, OpeningTold, EachOpening, Gives, ReadingTold, EachReading, WritingTold, EachWriting, WriterTakes}
-use Rattle.file.proofs.Numbers.{kind-code}
-use Rattle.file.proofs.Lengths.{length-file}
+use native.Mathlib.{Nat.not-suc-le-zero, Omega.arith}
+use lib.{ListN.{length, getD, drop, replicate}, Seq.drop-at}
+use Rattle.machine.specs.{Refusals.Case, Answers.Said, Refusing.{Line, RefusedExactly}, Calls.eventOf}
+use Rattle.machine.specs.declared.{Settings.Settings, Verdict.{Verdict, the-variants.Accepted}, Reading.Reading}
+use Rattle.machine.proofs.{Limits.limits-tested, Deciding.{Are, refused-exactly, accepted-verdict, refusal-keeps}}
+use Rattle.counting.proofs.{Tested.{Tested, below, most, same, both, fails, meaning}, Some.some-below}
+use Rattle.file.specs.File.{lettersRight, versionOf, settingsOf, countOf, codeAt, taskAt, eventAt, codeBad}
+use Rattle.file.specs.File.{headerCases, codeCases, openVerdict, openingBy, kindOf, eventCases, eventVerdict}
+use Rattle.file.specs.File.{readBy, fileLength, fileBytes, numberBad, writeCases, writeVerdict, writtenBy}
+use Rattle.file.specs.File.{openingSaid, readingSaid, writingSaid}
+use Rattle.file.specs.Refusing.{byte, headerLines, codeLines, openLines, eventLines, nextLines, writeLines}
+use Rattle.file.specs.Refusing.{OpeningTold, EachOpening, Gives, ReadingTold, EachReading, WritingTold}
+use Rattle.file.specs.Refusing.{EachWriting, WriterTakes}
+use Rattle.file.proofs.{Numbers.kind-code, Lengths.length-file}
 
 -- ---- opening's tests but the last
 
-pub letters-tested : (file : List ℕ) → Tested (lettersRight file) ((byte file 0 ≡ 0x47) × (byte file 1 ≡ 0x52) × (byte file 2 ≡ 0x53))
+pub letters-tested : (file : List ℕ) → Tested (lettersRight file)
+    ((byte file 0 ≡ 0x47) × (byte file 1 ≡ 0x52) × (byte file 2 ≡ 0x53))
 letters-tested file =
     meaning (both (same (byte file 0) 0x47) (both (same (byte file 1) 0x52) (same (byte file 2) 0x53)))
     (λ (g, (r, s)). (g, r, s), λ (g, r, s). (g, (r, s)))
 
-header-are : (file : List ℕ) (cases : List Case) (lines : List Line) → Are cases lines → Are (headerCases file cases) (headerLines file lines)
+header-are : (file : List ℕ) (cases : List Case) (lines : List Line) → Are cases lines
+    → Are (headerCases file cases) (headerLines file lines)
 header-are file cases lines rest = (
   record { numbered = refl; tested = below (length file) 11 },
   λ long. (
@@ -105,7 +94,8 @@ module _ (file : List ℕ) (at : ℕ) where
       )
 
   next-exactly : RefusedExactly (nextSays (eventVerdict file at)) (nextLines file at)
-  next-exactly = refused-exactly nextSays refl (λ why. refl) (headerCases file (eventCases file at)) (nextLines file at) next-are
+  next-exactly = refused-exactly nextSays refl (λ why. refl) (headerCases file (eventCases file at))
+      (nextLines file at) next-are
 
   given : nextSays (eventVerdict file at) .number ≡ 0 → eventVerdict file at ≡ Accepted
   given = accepted-verdict nextSays refl (λ why. refl) (eventVerdict file at)
@@ -113,7 +103,8 @@ module _ (file : List ℕ) (at : ℕ) where
   -- the last line of the table does not hold
   known : nextSays (eventVerdict file at) .number ≡ 0 → codeAt file at ≤ 2
   known accepted =
-      let (long, (letters, (version, (fair, (few, (whole, (some, (code, last)))))))) = next-exactly .accepted .0 accepted in
+      let (long, (letters, (version, (fair, (few, (whole, (some, (code, last)))))))) =
+      next-exactly .accepted .0 accepted in
       omega arith
 
   reading-told : ReadingTold file at
@@ -123,7 +114,8 @@ module _ (file : List ℕ) (at : ℕ) where
     values = λ accepted. ap (λ (v : Verdict). nextSays v .values) (given accepted)
         ∙ ap (λ (code : ℕ). (code * 65536 + taskAt file at .0) ∷ []) (kind-code (codeAt file at) (known accepted));
     moves = λ accepted. ap (λ (v : Verdict). readBy v (eventAt file at) at .at) (given accepted);
-    stays = refusal-keeps nextSays refl (λ why. refl) (λ v. readBy v (eventAt file at) at .at) at (λ why. refl) (eventVerdict file at);
+    stays = refusal-keeps nextSays refl (λ why. refl) (λ v. readBy v (eventAt file at) at .at) at (λ why. refl)
+        (eventVerdict file at);
   }
 
 pub each-reading : EachReading
@@ -141,7 +133,11 @@ module _ (s : Settings) (numbers room : List ℕ) where
     λ fair. (
       record { numbered = refl; tested = below 16384 (length numbers) },
       λ few. (
-        record { numbered = refl; tested = some-below (numberBad numbers) (λ i. below 2 (getD numbers i 0 / 65536)) (length numbers) },
+        record {
+          numbered = refl;
+          tested =
+              some-below (numberBad numbers) (λ i. below 2 (getD numbers i 0 / 65536)) (length numbers);
+        },
         λ known. (record { numbered = refl; tested = below (length room) (11 + 3 * length numbers) }, λ fits. tt),
       ),
     ),
@@ -152,11 +148,15 @@ module _ (s : Settings) (numbers room : List ℕ) where
 
   writing-told : WritingTold s numbers room
   writing-told = record {
-    exactly = refused-exactly writeSays refl (λ why. refl) (writeCases s numbers room) (writeLines s numbers room) write-are;
+    exactly = refused-exactly writeSays refl (λ why. refl) (writeCases s numbers room)
+        (writeLines s numbers room) write-are;
     values = λ accepted. ap (λ (v : Verdict). writeSays v .values) (wrote accepted);
-    beyond = λ accepted. ap (λ (v : Verdict). drop (fileLength (length numbers)) (writtenBy v s numbers room .room)) (wrote accepted)
-        ∙ drop-at (fileBytes s numbers) (drop (fileLength (length numbers)) room) (fileLength (length numbers)) (length-file s numbers);
-    keeps = refusal-keeps writeSays refl (λ why. refl) (λ v. writtenBy v s numbers room .room) room (λ why. refl) (writeVerdict s numbers room);
+    beyond = λ accepted. ap (λ (v : Verdict). drop (fileLength (length numbers)) (writtenBy v s numbers room .room))
+        (wrote accepted)
+        ∙ drop-at (fileBytes s numbers) (drop (fileLength (length numbers)) room) (fileLength (length numbers))
+        (length-file s numbers);
+    keeps = refusal-keeps writeSays refl (λ why. refl) (λ v. writtenBy v s numbers room .room) room (λ why. refl)
+        (writeVerdict s numbers room);
   }
 
 pub each-writing : EachWriting
@@ -165,5 +165,10 @@ each-writing = writing-told
 -- no line holds of the schedule of no events and a room of eleven bytes
 pub writer-takes : WriterTakes
 writer-takes s l =
-    each-writing s [] (replicate 11 0) .exactly .accepted .1
-    (λ outside. outside l, (λ many. absurd (omega arith), (λ some. absurd (not-suc-le-zero (some .1)), (λ short. absurd (omega arith), tt))))
+    each-writing s [] (replicate 11 0) .exactly .accepted .1 (
+      λ outside. outside l,
+      (
+        λ many. absurd (omega arith),
+        (λ some. absurd (not-suc-le-zero (some .1)), (λ short. absurd (omega arith), tt)),
+      ),
+    )

@@ -1,42 +1,32 @@
 -- An accepted schedule, written and read back, gives the same settings and events.
-use mathlib.Core.Path.{_≡_, refl, sym, ap, _∙_, subst}
-use mathlib.Core.Bool.{false}
-use mathlib.Core.List.{List, [], _∷_, _++_}
+use mathlib.Core.{Path.{_≡_, refl, sym, ap, _∙_, subst}, Bool.false, List.{List, [], _∷_, _++_}}
 use Prim.Native.Nat.{ℕ, zero, suc, _+_, _*_, _%_, _/_, _≤_, _<_}
-use native.Mathlib.Nat.{add-zero}
-use native.Mathlib.Omega.{arith}
-use lib.Dec.{T, ltb}
-use lib.ListN.{length, getD, take, drop, List·getD-append}
-use lib.Seq.{getD-append-add, take-at, ext-getD}
+use native.Mathlib.{Nat.add-zero, Omega.arith}
+use lib.{Dec.{T, ltb}, ListN.{length, getD, take, drop, List·getD-append}, Seq.{getD-append-add, take-at, ext-getD}}
 use borrow.Author.Tests.{ltb-false, le-ltb, not-false}
-use Rattle.machine.specs.Settings.{permitted}
-use Rattle.machine.specs.Refusals.{first}
-use Rattle.machine.specs.Answers.{Said}
-use Rattle.counting.specs.Counting.{anyBelow}
-use Rattle.file.specs.File.{mostEvents, writeCases, eventNumber, readingSaid, writingSaid, fileLength, settingsOf, countOf, codeAt, eventAt, codeBad, headerCases, opening, Read, reading, headerBytes, codeIn, eventBytes, eventsBytes, fileBytes, numberBad, writeVerdict, writtenBy, writing}
-use Rattle.machine.specs.declared.Settings.{Settings}
-use Rattle.machine.specs.declared.Verdict.{Verdict}
-use Rattle.machine.specs.declared.Verdict.the-variants.{Accepted, Refused}
-use Rattle.machine.specs.declared.Opening.{Opening}
+use Rattle.machine.specs.{Settings.permitted, Refusals.first, Answers.Said}
+use Rattle.machine.specs.declared.{Settings.Settings, Verdict.{Verdict, the-variants.Accepted}, Opening.Opening}
 use Rattle.machine.specs.declared.Reading.{Reading}
-use Rattle.machine.proofs.Limits.{limits}
+use Rattle.machine.proofs.{Limits.limits, Deciding.no-case}
+use Rattle.counting.{specs.Counting.anyBelow, proofs.Some.{none-below, each-none}}
+use Rattle.file.specs.File.{mostEvents, writeCases, eventNumber, readingSaid, writingSaid, fileLength, settingsOf}
+use Rattle.file.specs.File.{countOf, codeAt, eventAt, codeBad, headerCases, opening, Read, reading, headerBytes}
+use Rattle.file.specs.File.{codeIn, eventBytes, eventsBytes, fileBytes, numberBad, writeVerdict, writtenBy}
+use Rattle.file.specs.File.{writing}
 use Rattle.file.specs.RoundTrip.{eventsRead, Tells, Holds, ScheduleComesBack}
-use Rattle.file.proofs.Numbers.{bytes-of-word, bytes-of-event}
-use Rattle.file.proofs.Lengths.{length-file}
-use Rattle.counting.proofs.Some.{none-below, each-none}
-use Rattle.machine.proofs.Deciding.{no-case}
+use Rattle.file.proofs.{Numbers.{bytes-of-word, bytes-of-event}, Lengths.length-file}
 use Rattle.file.proofs.Headers.{Header, header-accepts, opening-passed, reading-given, reading-ends}
-use Rattle.file.proofs.Refusing.{wrote, each-writing}
-use Rattle.file.proofs.Writes.{Writable}
-use Rattle.file.proofs.FileBack.{length-read, getD-read}
+use Rattle.file.proofs.{Refusing.{wrote, each-writing}, Writes.Writable, FileBack.{length-read, getD-read}}
 
 -- ---- the bytes of the events, one by one
 
-event-byte : (numbers : List ℕ) (i j : ℕ) → i < length numbers → j < 3 → getD (eventsBytes numbers) (3 * i + j) 0 ≡ getD (eventBytes (getD numbers i 0)) j 0
+event-byte : (numbers : List ℕ) (i j : ℕ) → i < length numbers → j < 3
+    → getD (eventsBytes numbers) (3 * i + j) 0 ≡ getD (eventBytes (getD numbers i 0)) j 0
 event-byte [] i j l k = let none : ⊥ = omega arith in absurd none
 event-byte (number ∷ numbers) zero j l k =
     let here : 3 * zero + j ≡ j = omega arith in
-    ap (λ (m : ℕ). getD (eventBytes number ++ eventsBytes numbers) m 0) here ∙ List·getD-append (eventBytes number) (eventsBytes numbers) 0 j k
+    ap (λ (m : ℕ). getD (eventBytes number ++ eventsBytes numbers) m 0) here
+    ∙ List·getD-append (eventBytes number) (eventsBytes numbers) 0 j k
 event-byte (number ∷ numbers) (suc i) j l k =
     let later : 3 * suc i + j ≡ 3 + (3 * i + j) = omega arith in
     ap (λ (m : ℕ). getD (eventBytes number ++ eventsBytes numbers) m 0) later
@@ -58,7 +48,8 @@ module _ (s : Settings) (numbers : List ℕ) (good : Writable s numbers) where
   file = fileBytes s numbers
 
   settings-back : settingsOf file ≡ s
-  settings-back = ap (λ (n : ℕ). record { mode = s .mode; n = n; k = s .k }) (bytes-of-word (s .n) (omega (arith, limits s (subst T (sym (good .limits)) tt) .n-most)))
+  settings-back = ap (λ (n : ℕ). record { mode = s .mode; n = n; k = s .k })
+      (bytes-of-word (s .n) (omega (arith, limits s (subst T (sym (good .limits)) tt) .n-most)))
 
   count-back : countOf file ≡ length numbers
   count-back = bytes-of-word (length numbers) (omega (arith, good .few))
@@ -77,7 +68,8 @@ module _ (s : Settings) (numbers : List ℕ) (good : Writable s numbers) where
   passes = header-accepts file header-good
 
   code-back : (i : ℕ) → i < length numbers → codeAt file i ≡ codeIn (getD numbers i 0)
-  code-back i l = ap (λ (m : ℕ). getD file m 0) (sym (add-zero (fileLength i))) ∙ file-byte s numbers i 0 l (omega arith)
+  code-back i l = ap (λ (m : ℕ). getD file m 0) (sym (add-zero (fileLength i)))
+      ∙ file-byte s numbers i 0 l (omega arith)
 
   code-known : (i : ℕ) → i < length numbers → codeIn (getD numbers i 0) ≤ 2
   code-known i l = ltb-false _ _ (none-below (numberBad numbers) (length numbers) (good .codes) i l)
@@ -96,13 +88,16 @@ module _ (s : Settings) (numbers : List ℕ) (good : Writable s numbers) where
       ap (λ (m : ℕ). getD file m 0) place ∙ file-byte s numbers i 2 l (omega arith) in
       rw (code-back i l, low, high) (bytes-of-event (getD numbers i 0) (code-known i l))
 
-  given-back : (i : ℕ) → i < length numbers → _≡_ {A = Read} (reading file i) (record { answer = Reading.Given (eventAt file i); at = i + 1 })
-  given-back i l = reading-given file passes i (omega (arith, count-back)) (ap (ltb 2) (code-back i l) ∙ le-ltb _ _ (code-known i l))
+  given-back : (i : ℕ) → i < length numbers
+      → _≡_ {A = Read} (reading file i) (record { answer = Reading.Given (eventAt file i); at = i + 1 })
+  given-back i l = reading-given file passes i (omega (arith, count-back))
+      (ap (ltb 2) (code-back i l) ∙ le-ltb _ _ (code-known i l))
 
   events-back : eventsRead file 0 (length numbers) ≡ numbers
   events-back =
       let fits : 0 + length numbers ≤ countOf file = omega (arith, count-back) in
-      let long : length (eventsRead file 0 (length numbers)) ≡ length numbers = length-read file passes codes-back (length numbers) 0 fits in
+      let long : length (eventsRead file 0 (length numbers)) ≡ length numbers =
+      length-read file passes codes-back (length numbers) 0 fits in
       ext-getD 0 (eventsRead file 0 (length numbers)) numbers long λ i l.
       let below : i < length numbers = omega arith in
       let here : 0 + i ≡ i = omega arith in
@@ -115,8 +110,11 @@ module _ (s : Settings) (numbers : List ℕ) (good : Writable s numbers) where
 
   tells-back : (i : ℕ) → i < length numbers → Tells (readingSaid (reading file i .answer)) (getD numbers i 0 ∷ [])
   tells-back i l =
-      let given = ap (λ (read : Read). readingSaid (read .answer)) (given-back i l) in
-      (ap (λ (says : Said). says .number) given, ap (λ (says : Said). says .values) given ∙ ap (λ (number : ℕ). number ∷ []) (number-back i l))
+      let given = ap (λ (read : Read). readingSaid (read .answer)) (given-back i l) in (
+        ap (λ (says : Said). says .number) given,
+        ap (λ (says : Said). says .values) given
+            ∙ ap (λ (number : ℕ). number ∷ []) (number-back i l),
+      )
 
   schedule-back : Holds s numbers file
   schedule-back = record {
@@ -125,16 +123,21 @@ module _ (s : Settings) (numbers : List ℕ) (good : Writable s numbers) where
     gives = tells-back;
     moves = λ i l. ap (λ (read : Read). read .at) (given-back i l);
     events = events-back;
-    ends = ap (λ (read : Read). readingSaid (read .answer) .number) (reading-ends file passes (length numbers) (omega (arith, count-back)));
+    ends = ap (λ (read : Read). readingSaid (read .answer) .number)
+        (reading-ends file passes (length numbers) (omega (arith, count-back)));
   }
 
 -- ---- the theorem
 
 -- what the writer's acceptance shows
-written-accepted : (s : Settings) (numbers room : List ℕ) (count : ℕ) → Tells (writingSaid (writing s numbers room .answer)) (count ∷ [])
+written-accepted : (s : Settings) (numbers room : List ℕ) (count : ℕ)
+    → Tells (writingSaid (writing s numbers room .answer)) (count ∷ [])
     → (writeVerdict s numbers room ≡ Accepted) × (fileLength (length numbers) ≡ count)
-written-accepted s numbers room count (accepted, value) =
-    (wrote s numbers room accepted, ap (λ (values : List ℕ). getD values 0 0) (sym (each-writing s numbers room .values accepted) ∙ value))
+written-accepted s numbers room count (accepted, value) = (
+  wrote s numbers room accepted,
+  ap (λ (values : List ℕ). getD values 0 0)
+      (sym (each-writing s numbers room .values accepted) ∙ value),
+)
 
 verdict-writable : (s : Settings) (numbers room : List ℕ) → writeVerdict s numbers room ≡ Accepted → Writable s numbers
 verdict-writable s numbers room accepted =
@@ -146,5 +149,6 @@ schedule-comes-back s numbers room count e =
     let accepted = written-accepted s numbers room count e in
     let bytes : take count (writing s numbers room .room) ≡ fileBytes s numbers =
     ap (λ (v : Verdict). take count (writtenBy v s numbers room .room)) (accepted .0)
-    ∙ take-at (fileBytes s numbers) (drop (fileLength (length numbers)) room) count (length-file s numbers ∙ accepted .1) in
+    ∙ take-at (fileBytes s numbers) (drop (fileLength (length numbers)) room) count
+    (length-file s numbers ∙ accepted .1) in
     subst (Holds s numbers) (sym bytes) (schedule-back s numbers (verdict-writable s numbers room (accepted .0)))

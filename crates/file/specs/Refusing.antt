@@ -1,17 +1,11 @@
--- 00, demand 1, and 01, "Schedule file": what opening, a reader's next event and the writer are refused by, as tables of plain lines in the order of
--- the tests, and what they answer otherwise. The lines speak of the bytes themselves and cite no field and no test of `specs/File`.
--- Theorems: `each-opening`, `each-reading`, `each-writing`, `writer-takes`.
-use mathlib.Core.Path.{_≡_}
-use mathlib.Core.Logic.{_⊎_}
-use mathlib.Core.List.{List, [], _∷_}
+-- 00, demand 1, and 01, "Schedule file": what opening, a reader's next event and the writer are refused by, as tables
+-- of plain lines in the order of the tests, and what they answer otherwise. The lines speak of the bytes themselves and
+-- cite no field and no test of `specs/File`. Theorems: `each-opening`, `each-reading`, `each-writing`, `writer-takes`.
+use mathlib.Core.{Path._≡_, Logic._⊎_, List.{List, [], _∷_}}
 use Prim.Native.Nat.{ℕ, _+_, _*_, _/_, _≤_, _<_}
 use lib.ListN.{length, getD, drop, replicate}
-use Rattle.machine.specs.Ranges.{WithinLimits}
-use Rattle.machine.specs.Refusing.{Line, line, RefusedExactly}
-use Rattle.machine.specs.Calls.{ask, turn, release}
-use Rattle.machine.specs.declared.Settings.{Settings}
-use Rattle.machine.specs.declared.Opening.{Opening}
-use Rattle.machine.specs.declared.Reading.{Reading}
+use Rattle.machine.specs.{Ranges.WithinLimits, Refusing.{Line, line, RefusedExactly}, Calls.{ask, turn, release}}
+use Rattle.machine.specs.declared.{Settings.Settings, Opening.Opening, Reading.Reading}
 use Rattle.file.specs.File.{opening, reading, writing, openingSaid, readingSaid, writingSaid}
 
 -- ---- what the bytes say
@@ -23,7 +17,8 @@ byte file i = getD file i 0
 abbrev pub sixteen : List ℕ → ℕ → ℕ
 sixteen file i = byte file i + 256 * byte file (i + 1)
 
--- "The three letters G, R, S; version, 16 bits, 1; mode, 1 byte; N, 16 bits; k, 1 byte; event count, 16 bits: 11 bytes."
+-- "The three letters G, R, S; version, 16 bits, 1; mode, 1 byte; N, 16 bits; k, 1 byte; event count, 16 bits: 11
+-- bytes."
 abbrev pub inHeader : List ℕ → Settings
 inHeader file = record { mode = byte file 5; n = sixteen file 6; k = byte file 8 }
 
@@ -57,7 +52,8 @@ eventLines file at =
 abbrev pub nextLines : List ℕ → ℕ → List Line
 nextLines file at = headerLines file (eventLines file at)
 
--- "The writer takes settings and a row of event numbers and tests 1, 11, 12, 14"; "An event's number is code times 65,536 plus identifier."
+-- "The writer takes settings and a row of event numbers and tests 1, 11, 12, 14"; "An event's number is code times
+-- 65,536 plus identifier."
 abbrev pub writeLines : Settings → List ℕ → List ℕ → List Line
 writeLines s numbers room =
     line 1 (WithinLimits s → ⊥)  -- settings outside the limits
@@ -84,7 +80,8 @@ EachOpening = (file : List ℕ) → OpeningTold file
 abbrev pub Gives : ℕ → ℕ → Reading → Type 0
 Gives code identifier answer =
     ((code ≡ 0) × (answer ≡ Reading.Given (ask identifier)))
-    ⊎ (((code ≡ 1) × (answer ≡ Reading.Given (turn identifier))) ⊎ ((code ≡ 2) × (answer ≡ Reading.Given (release identifier))))
+    ⊎ (((code ≡ 1) × (answer ≡ Reading.Given (turn identifier)))
+    ⊎ ((code ≡ 2) × (answer ≡ Reading.Given (release identifier))))
 
 -- "an event given moves the reader on by one, a refusal does not"
 pub record ReadingTold (file : List ℕ) (at : ℕ) : Type 0 where
@@ -92,7 +89,8 @@ pub record ReadingTold (file : List ℕ) (at : ℕ) : Type 0 where
   pub gives : readingSaid (reading file at .answer) .number ≡ 0
       → Gives (byte file (11 + 3 * at)) (sixteen file (11 + 3 * at + 1)) (reading file at .answer)
   pub values : readingSaid (reading file at .answer) .number ≡ 0
-      → readingSaid (reading file at .answer) .values ≡ (byte file (11 + 3 * at) * 65536 + sixteen file (11 + 3 * at + 1)) ∷ []
+      → readingSaid (reading file at .answer) .values
+      ≡ (byte file (11 + 3 * at) * 65536 + sixteen file (11 + 3 * at + 1)) ∷ []
   pub moves : readingSaid (reading file at .answer) .number ≡ 0 → reading file at .at ≡ at + 1
   pub stays : 1 ≤ readingSaid (reading file at .answer) .number → reading file at .at ≡ at
 
@@ -101,7 +99,8 @@ EachReading = (file : List ℕ) (at : ℕ) → ReadingTold file at
 
 -- ---- writing
 
--- "it writes just the file's bytes, from the start of the room, and answers how many"; a refusal leaves the whole room. Which bytes: `RoundTrip`
+-- "it writes just the file's bytes, from the start of the room, and answers how many"; a refusal leaves the whole room.
+-- Which bytes: `RoundTrip`
 pub record WritingTold (s : Settings) (numbers room : List ℕ) : Type 0 where
   pub exactly : RefusedExactly (writingSaid (writing s numbers room .answer)) (writeLines s numbers room)
   pub values : writingSaid (writing s numbers room .answer) .number ≡ 0

@@ -1,19 +1,16 @@
--- 00, demand 2: "An accepted schedule file read and written back gives the same bytes, and an accepted schedule written and read back the same
--- settings and events."
-use mathlib.Core.Path.{_≡_}
-use mathlib.Core.List.{List, [], _∷_, _++_}
+-- 00, demand 2: "An accepted schedule file read and written back gives the same bytes, and an accepted schedule written
+-- and read back the same settings and events."
+use mathlib.Core.{Path._≡_, List.{List, [], _∷_, _++_}}
 use Prim.Native.Nat.{ℕ, zero, suc, _+_, _≤_, _<_}
 use lib.ListN.{length, getD, take, drop}
-use Rattle.machine.specs.Answers.{Said}
+use Rattle.machine.specs.{Answers.Said, declared.{Settings.Settings, Opening.Opening, Writing.Writing}}
 use Rattle.file.specs.File.{opening, reading, Written, writing, openingSaid, readingSaid, writingSaid}
-use Rattle.machine.specs.declared.Settings.{Settings}
-use Rattle.machine.specs.declared.Opening.{Opening}
-use Rattle.machine.specs.declared.Writing.{Writing}
 
 -- the numbers of the events that a reader at a position gives when it is asked so many times
 abbrev pub eventsRead : List ℕ → ℕ → ℕ → List ℕ
 eventsRead file at zero = []
-eventsRead file at (suc times) = readingSaid (reading file at .answer) .values ++ eventsRead file (reading file at .at) times
+eventsRead file at (suc times) = readingSaid (reading file at .answer) .values ++ eventsRead file
+    (reading file at .at) times
 
 -- every element is a byte
 abbrev pub Bytes : List ℕ → Type 0
@@ -23,10 +20,12 @@ Bytes file = (i : ℕ) → getD file i 0 < 256
 abbrev pub Tells : Said → List ℕ → Type 0
 Tells says values = (says .number ≡ 0) × (says .values ≡ values)
 
--- an accepted file: its settings and the events that a reader gives, written into any room long enough, are its bytes again
+-- an accepted file: its settings and the events that a reader gives, written into any room long enough, are its bytes
+-- again
 abbrev pub FileComesBack : Type 0
 FileComesBack =
-    (file : List ℕ) → Bytes file → (s : Settings) (count : ℕ) → opening file ≡ Opening.Opened s count → (room : List ℕ) → length file ≤ length room
+    (file : List ℕ) → Bytes file → (s : Settings) (count : ℕ) → opening file ≡ Opening.Opened s count
+    → (room : List ℕ) → length file ≤ length room
     → _≡_ {A = Written} (writing s (eventsRead file 0 count) room) (record {
       answer = Writing.Wrote (length file);
       room = file ++ drop (length file) room;
@@ -44,5 +43,6 @@ pub record Holds (s : Settings) (numbers file : List ℕ) : Type 0 where
 -- an accepted schedule: the bytes that the writer wrote, as many as it answers, hold its settings and its events
 abbrev pub ScheduleComesBack : Type 0
 ScheduleComesBack =
-    (s : Settings) (numbers room : List ℕ) (count : ℕ) → Tells (writingSaid (writing s numbers room .answer)) (count ∷ [])
+    (s : Settings) (numbers room : List ℕ) (count : ℕ)
+    → Tells (writingSaid (writing s numbers room .answer)) (count ∷ [])
     → Holds s numbers (take count (writing s numbers room .room))

@@ -10,7 +10,8 @@ half r = r * (r - 1) / 2
 unfoldable pub placeNumber : ℕ → ℕ → ℕ → ℕ
 placeNumber k r c = r * k - half r + c
 
--- What the grid needs of a numbering of the places with r+c < k: each number is below the count, and different places have different numbers.
+-- What the grid needs of a numbering of the places with r+c < k: each number is below the count, and different places
+-- have different numbers.
 pub record Numbering (k : ℕ) (number : ℕ → ℕ → ℕ) (count : ℕ) : Type 0 where
   pub below : (r c : ℕ) → r + c < k → number r c < count
   pub apart : (r c i j : ℕ) → r + c < k → i + j < k → number r c ≡ number i j → (r ≡ i) × (c ≡ j)

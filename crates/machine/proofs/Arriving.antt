@@ -1,13 +1,10 @@
--- Where a task comes to, how it leaves a block and what its release writes, as laws of `arrive`, `leave` and `releaseAccess`.
+-- Where a task comes to, how it leaves a block and what its release writes, as laws of `arrive`, `leave` and
+-- `releaseAccess`.
 use mathlib.Core.Path.{_≡_}
 use Prim.Native.Nat.{ℕ, _+_, _≤_, _<_}
 use borrow.Author.Tests.{eq-eqb, ne-eqb, le-leb, lt-leb}
-use Rattle.machine.specs.Settings.{own}
-use Rattle.machine.specs.Places.{blockNumber}
-use Rattle.machine.specs.Turn.{releaseAccess, arrive, move, leave}
-use Rattle.machine.specs.declared.Settings.{Settings}
-use Rattle.machine.specs.declared.Direction.{Direction}
-use Rattle.machine.specs.declared.Point.the-variants.{WriteX, Clear}
+use Rattle.machine.specs.{Settings.own, Places.blockNumber, Turn.{releaseAccess, arrive, move, leave}}
+use Rattle.machine.specs.declared.{Settings.Settings, Direction.Direction, Point.the-variants.{WriteX, Clear}}
 use Rattle.machine.specs.declared.State.the-variants.{Seeking, Holding}
 use Rattle.machine.specs.declared.Access.the-variants.{NoAccess, MarkWritten}
 
@@ -29,7 +26,8 @@ module _ (s : Settings) (r c : ℕ) where
   leave-clearing d n = rw (ne-eqb (s .mode) 0 n)
 
   -- a release clears the own mark of a block
-  pub release-clears : (p : ℕ) → r + c + 2 ≤ s .k → MarkWritten (blockNumber s r c) (own s p) 0 ≡ releaseAccess s p (Holding r c)
+  pub release-clears : (p : ℕ) → r + c + 2 ≤ s .k
+      → MarkWritten (blockNumber s r c) (own s p) 0 ≡ releaseAccess s p (Holding r c)
   release-clears p b = rw (le-leb (r + c + 2) (s .k) b)
 
   -- and touches nothing on the edge

@@ -1,18 +1,15 @@
--- Demand 3, whole: the eight statements of `specs/Demands`, proved. Read this file first.
--- J0 to J3 hold after every call (`Histories`), and so: no two tasks hold one place (`Names`), a holder knows its name (`Told`), a seeking
--- task's turn is accepted (`Seekers`), it takes no more turns than the bound (`Served`), and the worst schedule takes as many (`Exact`).
+-- Demand 3, whole: the eight statements of `specs/Demands`, proved. Read this file first. J0 to J3 hold after every
+-- call (`Histories`), and so: no two tasks hold one place (`Names`), a holder knows its name (`Told`), a seeking task's
+-- turn is accepted (`Seekers`), it takes no more turns than the bound (`Served`), and the worst schedule takes as many
+-- (`Exact`).
 use mathlib.Core.Path.{_≡_, sym, _∙_}
-use native.Mathlib.Decide.{ℕ-discrete}
-use native.Mathlib.Omega.{arith}
-use Rattle.machine.specs.Demands.{HeldNamesDiffer, HeldNamesBelow, LastAnswerTrue, HeldNameAnswered, SeekerNeverRefused, bound, ServedWithin, BoundExact, SetupTakes}
-use Rattle.machine.proofs.Numbering.{name-numbering}
-use Rattle.machine.proofs.Names.{held-place, one-place}
-use Rattle.machine.proofs.Told.{told}
+use native.Mathlib.{Decide.ℕ-discrete, Omega.arith}
+use Rattle.machine.specs.Demands.{HeldNamesDiffer, HeldNamesBelow, LastAnswerTrue, HeldNameAnswered}
+use Rattle.machine.specs.Demands.{SeekerNeverRefused, bound, ServedWithin, BoundExact, SetupTakes}
+use Rattle.machine.proofs.{Numbering.name-numbering, Names.{held-place, one-place}, Told.told}
+use Rattle.machine.proofs.{Seekers.seeker-accepted, Served.{seeking-used, holding-used, served-alone}}
+use Rattle.machine.proofs.{Worst.worst, Exact.{worst-needs-bound, setup-takes-largest}}
 use Rattle.machine.proofs.Told as told
-use Rattle.machine.proofs.Seekers.{seeker-accepted}
-use Rattle.machine.proofs.Served.{seeking-used, holding-used, served-alone}
-use Rattle.machine.proofs.Worst.{worst}
-use Rattle.machine.proofs.Exact.{worst-needs-bound, setup-takes-largest}
 
 -- two that hold one name hold one place, which only one task can
 pub held-names-differ : HeldNamesDiffer
@@ -21,9 +18,11 @@ held-names-differ s lent events ok p q n lp lq hp hq = go (ℕ-discrete q p)
     go : Dec (q ≡ p) → p ≡ q
     go (yes e) = sym e
     go (no d) =
-        let same = name-numbering s .apart (hq .r) (hq .c) (hp .r) (hp .c) (held-place s lent events ok q (hq .r) (hq .c) lq (hq .holds))
+        let same = name-numbering s .apart (hq .r) (hq .c) (hp .r) (hp .c)
+        (held-place s lent events ok q (hq .r) (hq .c) lq (hq .holds))
         (held-place s lent events ok p (hp .r) (hp .c) lp (hp .holds)) (sym (hq .named) ∙ hp .named) in
-        absurd (one-place s lent events ok p q (hp .r) (hp .c) lp lq (hp .holds) (rw (same .0, same .1) at (hq .holds)) d)
+        absurd (one-place s lent events ok p q (hp .r) (hp .c) lp lq (hp .holds)
+        (rw (same .0, same .1) at (hq .holds)) d)
 
 pub held-names-below : HeldNamesBelow
 held-names-below s lent events ok p n l h =

@@ -1,28 +1,18 @@
--- What shows of a call's access: of X and marks the register read alone bears on the answer and the next record, and the register written alone
--- changes.
-use mathlib.Core.Path.{_≡_, refl, sym, ap, ap₂, subst, _∙_}
-use mathlib.Core.Bool.{not}
-use mathlib.Core.List.{List}
+-- What shows of a call's access: of X and marks the register read alone bears on the answer and the next record, and
+-- the register written alone changes.
+use mathlib.Core.{Path.{_≡_, refl, sym, ap, ap₂, subst, _∙_}, Bool.not, List.List}
 use Prim.Native.Nat.{ℕ}
 use native.Mathlib.Omega.{arith}
-use lib.Dec.{T}
-use lib.ListN.{set, length-set}
-use lib.Seq.{getD-set-same, getD-set-other}
-use Rattle.machine.specs.Records.{idle}
-use Rattle.machine.specs.Memory.{Memory, markIndex, recordOf, stateOf, withRecord}
-use Rattle.machine.specs.Turn.{access, value, store, next}
-use Rattle.machine.specs.Calls.{Outcome, answerOf, nextState}
-use Rattle.machine.specs.declared.Settings.{Settings}
-use Rattle.machine.specs.declared.State.{State}
-use Rattle.machine.specs.declared.Record.{Record}
-use Rattle.machine.specs.declared.Access.{Access}
-use Rattle.machine.specs.declared.Access.the-variants.{NoAccess, XRead, XWritten, MarkRead, MarkWritten}
-use Rattle.machine.specs.declared.Kind.{Kind}
-use Rattle.machine.specs.declared.Event.{Event}
-use Rattle.machine.specs.OneAccess.{RegisterNeeded, accessOf, AcceptedIn, reads, SameRead, SameEnd, OnlyTheRegisterReadBears, WritesX, WritesMark, Stands, ChangesOnly, WrittenChanges, OnlyTheRegisterWrittenChanges}
-use Rattle.machine.proofs.Refusing.{ruled}
-use Rattle.machine.proofs.Passing.{passed, by-the-rules}
-use Rattle.machine.proofs.OneAccess.{call-needed}
+use lib.{Dec.T, ListN.{set, length-set}, Seq.{getD-set-same, getD-set-other}}
+use Rattle.machine.specs.{Records.idle, Memory.{Memory, markIndex, recordOf, stateOf, withRecord}}
+use Rattle.machine.specs.{Turn.{access, value, store, next}, Calls.{Outcome, answerOf, nextState}}
+use Rattle.machine.specs.declared.{Settings.Settings, State.State, Record.Record}
+use Rattle.machine.specs.declared.Access.{Access, the-variants.{NoAccess, XRead, XWritten, MarkRead, MarkWritten}}
+use Rattle.machine.specs.declared.{Kind.Kind, Event.Event}
+use Rattle.machine.specs.OneAccess.{RegisterNeeded, accessOf, AcceptedIn, reads, SameRead, SameEnd}
+use Rattle.machine.specs.OneAccess.{OnlyTheRegisterReadBears, WritesX, WritesMark, Stands, ChangesOnly}
+use Rattle.machine.specs.OneAccess.{WrittenChanges, OnlyTheRegisterWrittenChanges}
+use Rattle.machine.proofs.{Refusing.ruled, Passing.{passed, by-the-rules}, OneAccess.call-needed}
 use Rattle.machine.proofs.Passed.{Passed, Fit}
 
 -- ---- one access on a memory
@@ -61,7 +51,8 @@ module _ (s : Settings) (m : Memory) where
   stands (XRead block) fit h = tt
   stands (XWritten block v) fit h = getD-set-same (m .xs) block v 0 (let long = fit .long .xs in omega arith)
   stands (MarkRead block place) fit h = tt
-  stands (MarkWritten block place v) fit h = getD-set-same (m .marks) (markIndex s block place) v 0 (let long = fit .long .marks in omega arith)
+  stands (MarkWritten block place v) fit h =
+      getD-set-same (m .marks) (markIndex s block place) v 0 (let long = fit .long .marks in omega arith)
 
   -- a record put in beside it leaves what was written
   stands-with : (a : Access) (p : ℕ) (new : Record) (m′ : Memory) → Stands s a m′ → Stands s a (withRecord p new m′)
@@ -82,20 +73,23 @@ module _ (s : Settings) (event : Event) (m : Memory) (h : Passed s event m) wher
   next-in-place =
       let long = h .fit .long .records in
       let low = h .may .known in
-      rw (store-records s m (accessOf s event m)) (getD-set-same (m .records) (event .task .0) nextOf idle (omega arith))
+      rw (store-records s m (accessOf s event m))
+      (getD-set-same (m .records) (event .task .0) nextOf idle (omega arith))
 
   accepted-changes : WrittenChanges s event m (ruled s event m .memory)
   accepted-changes = record {
     xs = store-xs s m (accessOf s event m);
     marks = store-marks s m (accessOf s event m);
-    written = stands-with s m (accessOf s event m) _ _ _ (stands s m (accessOf s event m) (h .fit) (call-needed s event m h));
+    written = stands-with s m (accessOf s event m) _ _ _
+        (stands s m (accessOf s event m) (h .fit) (call-needed s event m h));
     records = rw (store-records s m (accessOf s event m)) (set-row (m .records) (event .task .0) nextOf);
     own = ap (λ (r : Record). r .state) next-in-place;
   }
 
 pub only-the-register-written-changes : OnlyTheRegisterWrittenChanges
 only-the-register-written-changes s event m t =
-    subst (λ (outcome : Outcome). WrittenChanges s event m (outcome .memory)) (sym (by-the-rules s event m t)) (accepted-changes s event m (passed s event m t))
+    subst (λ (outcome : Outcome). WrittenChanges s event m (outcome .memory)) (sym (by-the-rules s event m t))
+    (accepted-changes s event m (passed s event m t))
 
 -- ---- only the register read bears
 
@@ -114,13 +108,16 @@ unread-same s m m′ (MarkRead block place) t = absurd t
 unread-same s m m′ (MarkWritten block place v) t = tt
 
 -- the next state, from one state and one value read
-same-next : (s : Settings) (kind : Kind) (p : ℕ) (state state′ : State) (m m′ : Memory) → state ≡ state′ → SameRead s (access s kind p state) m m′
+same-next : (s : Settings) (kind : Kind) (p : ℕ) (state state′ : State) (m m′ : Memory) → state ≡ state′
+    → SameRead s (access s kind p state) m m′
     → nextState s kind p state m ≡ nextState s kind p state′ m′
 same-next s kind p state state′ m m′ e same =
-    ap (next s kind p state) (same-value s m m′ (access s kind p state) same) ∙ ap (λ (st : State). nextState s kind p st m′) e
+    ap (next s kind p state) (same-value s m m′ (access s kind p state) same)
+    ∙ ap (λ (st : State). nextState s kind p st m′) e
 
 same-end : (s : Settings) (event : Event) (m m′ : Memory) → AcceptedIn s event m → AcceptedIn s event m′
-    → recordOf m (event .task .0) ≡ recordOf m′ (event .task .0) → SameRead s (accessOf s event m) m m′ → SameEnd s event m m′
+    → recordOf m (event .task .0) ≡ recordOf m′ (event .task .0) → SameRead s (accessOf s event m) m m′
+    → SameEnd s event m m′
 same-end s event m m′ t t′ e same =
     let p = event .task .0 in
     let before = ap (λ (r : Record). r .state) e in
@@ -130,7 +127,8 @@ same-end s event m m′ t t′ e same =
     let put = next-in-place s event m (passed s event m t) in
     let put′ = next-in-place s event m′ (passed s event m′ t′) in
     record {
-      answer = ap (λ (o : Outcome). o .answer) rules ∙ ap₂ (answerOf s (event .kind)) before after ∙ sym (ap (λ (o : Outcome). o .answer) rules′);
+      answer = ap (λ (o : Outcome). o .answer) rules ∙ ap₂ (answerOf s (event .kind)) before after
+          ∙ sym (ap (λ (o : Outcome). o .answer) rules′);
       next-record =
           ap (λ (o : Outcome). recordOf (o .memory) p) rules
           ∙ put

@@ -1,50 +1,42 @@
--- Demand 3, "For each permitted mode, N and k some sequence makes one task need exactly that many": the worst schedule does, with task 0;
--- and setup takes a memory with rows long enough, so that there is a history to speak of.
-use mathlib.Core.Path.{_≡_, sym, ap, subst, _∙_}
-use mathlib.Core.List.{List, [], _∷_, _++_}
+-- Demand 3, "For each permitted mode, N and k some sequence makes one task need exactly that many": the worst schedule
+-- does, with task 0; and setup takes a memory with rows long enough, so that there is a history to speak of.
+use mathlib.Core.{Path.{_≡_, sym, ap, subst, _∙_}, List.{List, [], _∷_, _++_}}
 use Prim.Native.Nat.{ℕ, _≤_}
-use native.Mathlib.Nat.{mul-le-mul, mul-le-mul-right}
-use native.Mathlib.Omega.{arith}
-use lib.Dec.{T}
-use lib.ListN.{length, replicate, length-replicate}
+use native.Mathlib.Nat.{mul-le-mul}
+use lib.{Dec.T, ListN.{length, replicate, length-replicate}}
 use borrow.Author.Tests.{le-ltb, not-false}
-use Rattle.grid.specs.Triangle.{half}
-use Rattle.machine.specs.Places.{blocks}
-use Rattle.machine.specs.Records.{idle, isSeeking}
-use Rattle.machine.specs.Memory.{Memory, marksNeeded, stateOf, largest}
-use Rattle.machine.specs.Answers.{isAccepted}
-use Rattle.machine.specs.Calls.{Outcome, call, setup, turn}
-use Rattle.machine.specs.Ranges.{WithinLimits}
-use Rattle.machine.proofs.Worst.{worst}
+use Rattle.machine.specs.{Places.blocks, Records.{idle, isSeeking}}
+use Rattle.machine.specs.{Memory.{Memory, marksNeeded, stateOf, largest}, Answers.isAccepted}
+use Rattle.machine.specs.{Calls.{Outcome, call, setup, turn}, Ranges.WithinLimits}
 use Rattle.machine.specs.Demands.{SetUp, memoryAfter, historyOf, Seeks, HoldsSome, allAccepted, NeedsBound}
-use Rattle.machine.specs.declared.Settings.{Settings}
-use Rattle.machine.specs.declared.Event.{Event}
-use Rattle.counting.proofs.Tested.{passes}
-use Rattle.machine.proofs.Limits.{limits-tested, width-most}
-use Rattle.grid.proofs.Triangle.{half-most}
-use Rattle.machine.proofs.Fresh.{setup-within}
-use Rattle.machine.proofs.Outcomes.{Called, taken, refused, called}
-use Rattle.machine.proofs.Histories.{always-fine}
-use Rattle.machine.proofs.Leads.{EndsWith, last-accepted, used-written}
-use Rattle.machine.proofs.WorstTurns.{worst-turns, worst-last}
+use Rattle.machine.specs.declared.{Settings.Settings, Event.Event}
+use Rattle.machine.proofs.{Worst.worst, Limits.{limits-tested, width-most}, Fresh.setup-within}
+use Rattle.machine.proofs.{Outcomes.{Called, taken, refused, called}, Histories.always-fine}
+use Rattle.machine.proofs.{Leads.{EndsWith, last-accepted, used-written}, WorstTurns.{worst-turns, worst-last}}
 use Rattle.machine.proofs.WorstRun.{worst-run}
+use Rattle.counting.proofs.Tested.{passes}
+use Rattle.grid.proofs.Triangle.{half-most}
 
 -- ---- the worst schedule
 
 -- a turn that is accepted was a seeking task's
-taken-turn-seeks : (s : Settings) (m : Memory) (p : ℕ) (outcome : Outcome) → Called s (turn p) m outcome → T (isAccepted (outcome .answer))
+taken-turn-seeks : (s : Settings) (m : Memory) (p : ℕ) (outcome : Outcome) → Called s (turn p) m outcome
+    → T (isAccepted (outcome .answer))
     → Seeks m p
 taken-turn-seeks s m p outcome (refused why) t = absurd t
 taken-turn-seeks s m p outcome (taken o) t = rw (not-false (isSeeking (stateOf m p)) (o .moment)) tt
 
 -- so before a last turn of task 0, in calls of which none is refused, task 0 seeks
-seeks-before-last : (s : Settings) (lent : Memory) → SetUp s lent → (events : List Event) (last : Event) (ends : EndsWith events last)
+seeks-before-last : (s : Settings) (lent : Memory) → SetUp s lent
+    → (events : List Event) (last : Event) (ends : EndsWith events last)
     → T (allAccepted (historyOf s lent events)) → last ≡ turn 0 → Seeks (memoryAfter s lent (ends .before)) 0
 seeks-before-last s lent ok events last ends accepted e =
     let m = memoryAfter s lent (ends .before) in
     let split : T (allAccepted (historyOf s lent (ends .before ++ (turn 0 ∷ [])))) =
-    subst (λ (all : List Event). T (allAccepted (historyOf s lent all))) (ends .split ∙ ap (λ (z : Event). ends .before ++ (z ∷ [])) e) accepted in
-    taken-turn-seeks s m 0 (call s (turn 0) m) (called s (setup-within s lent ok) (turn 0) m (always-fine s lent ok (ends .before) .good .sound))
+    subst (λ (all : List Event). T (allAccepted (historyOf s lent all)))
+    (ends .split ∙ ap (λ (z : Event). ends .before ++ (z ∷ [])) e) accepted in
+    taken-turn-seeks s m 0 (call s (turn 0) m)
+    (called s (setup-within s lent ok) (turn 0) m (always-fine s lent ok (ends .before) .good .sound))
     (last-accepted s (ends .before) (turn 0) (setup s lent .memory) split)
 
 pub worst-needs-bound : (s : Settings) (lent : Memory) → SetUp s lent → NeedsBound s lent (worst s)
@@ -58,14 +50,16 @@ worst-needs-bound s lent ok =
       last = end .last;
       split = end .ends .split;
       its = end .its;
-      late = λ more. seeks-before-last s lent ok (worst s) (end .last) (end .ends) (foot .leads .accepted) (end .late more);
+      late = λ more. seeks-before-last s lent ok (worst s) (end .last) (end .ends) (foot .leads .accepted)
+          (end .late more);
       holds = subst (λ (m : Memory). HoldsSome m 0) (sym (foot .leads .ends)) (rw (foot .holds) tt);
       exactly = used-written s 0 (worst s) (setup s lent .memory) 0 (foot .leads .accepted) ∙ worst-turns s bounds;
     }
 
 -- ---- setup
 
-pub setup-takes-long-rows : (s : Settings) (m : Memory) → WithinLimits s → s .n ≤ length (m .records) → blocks s ≤ length (m .xs)
+pub setup-takes-long-rows : (s : Settings) (m : Memory) → WithinLimits s → s .n ≤ length (m .records)
+    → blocks s ≤ length (m .xs)
     → marksNeeded s ≤ length (m .marks) → SetUp s m
 setup-takes-long-rows s m fair a b c =
     rw (

@@ -1,31 +1,19 @@
 -- What an accepted setup leaves: a memory that passes the tests 1 to 3, with every task idle.
-use mathlib.Core.Path.{_≡_, refl, sym, ap, subst, _∙_}
-use mathlib.Core.Bool.{Bool, true, false, not}
-use mathlib.Core.List.{List, [], _∷_}
+use mathlib.Core.{Path.{_≡_, refl, sym, ap, subst, _∙_}, Bool.{Bool, true, false}, List.{List, [], _∷_}}
 use Prim.Native.Nat.{ℕ, _≤_, _<_, zero-le}
-use native.Mathlib.Nat.{le-refl}
 use native.Mathlib.Omega.{arith}
-use lib.Dec.{T, ltb, le→leb}
+use lib.Dec.{T, le→leb}
 use lib.ListN.{length, getD, replicate, drop, length-append, length-replicate, getD-replicate, List·getD-append}
 use borrow.Author.Tests.{not-false}
-use Rattle.machine.specs.Settings.{permitted}
-use Rattle.machine.specs.Places.{blocks}
-use Rattle.machine.specs.Records.{idle, isOut, recordInRange}
-use Rattle.counting.specs.Counting.{firstBad}
-use Rattle.machine.specs.Memory.{Memory, marksNeeded, stateOf, xInRange, markInRange, badRecord, badX, badMark, outOf, fill}
-use Rattle.machine.specs.Refusals.{first, when, outsideLimits, rowShort, noSuchTask, oneTimeRelease, wrongMoment, tooManyOut}
-use Rattle.machine.specs.Calls.{Outcome, refuseOr, verdictOf, cleared, setup}
-use Rattle.machine.specs.Demands.{SetUp}
-use Rattle.machine.specs.declared.Settings.{Settings}
-use Rattle.machine.specs.declared.State.the-variants.{Idle}
-use Rattle.machine.specs.declared.Record.{Record}
-use Rattle.machine.specs.declared.Event.{Event}
-use Rattle.machine.specs.declared.Refusal.the-variants.{Limits, ShortRow, NoSuchTask, OneTime, WrongMoment, TooManyOut}
-use Rattle.machine.specs.declared.Answer.{Answer}
-use Rattle.counting.proofs.Searching.{none-bad, count-none}
-use Rattle.machine.proofs.Passed.{Fit}
+use Rattle.machine.specs.{Settings.permitted, Places.blocks, Records.{idle, isOut}}
+use Rattle.machine.specs.Memory.{Memory, marksNeeded, stateOf, outOf, fill}
+use Rattle.machine.specs.Refusals.{first, when, outsideLimits, rowShort}
+use Rattle.machine.specs.{Calls.{Outcome, refuseOr, cleared, setup}, Demands.SetUp}
+use Rattle.machine.specs.declared.{Settings.Settings, State.the-variants.Idle, Record.Record}
+use Rattle.machine.specs.declared.{Refusal.the-variants.{Limits, ShortRow}, Answer.Answer}
 use Rattle.machine.specs.Ranges.{WithinLimits}
-use Rattle.machine.proofs.Limits.{limits}
+use Rattle.counting.proofs.Searching.{count-none}
+use Rattle.machine.proofs.{Passed.Fit, Limits.limits}
 
 -- ---- rows that were filled
 
@@ -39,14 +27,16 @@ fill-at n i a d l h =
 
 -- ---- an accepted setup
 
-two-tests : (a b : Bool) (m : Memory) (o : Outcome) → refuseOr (first (when a Limits ∷ when b ShortRow ∷ [])) m o .answer ≡ Answer.Done → (a ≡ false) × (b ≡ false)
+two-tests : (a b : Bool) (m : Memory) (o : Outcome)
+    → refuseOr (first (when a Limits ∷ when b ShortRow ∷ [])) m o .answer ≡ Answer.Done → (a ≡ false) × (b ≡ false)
 two-tests true b m o e = absurd (let z : _≡_ {A = ℕ} 0 1 = cc in omega arith)
 two-tests false true m o e = absurd (let z : _≡_ {A = ℕ} 0 1 = cc in omega arith)
 two-tests false false m o e = (refl, refl)
 
 module _ (s : Settings) (lent : Memory) (ok : SetUp s lent) where
   both : (outsideLimits s ≡ false) × (rowShort s (length (lent .records)) (lent .xs) (lent .marks) ≡ false)
-  both = two-tests (outsideLimits s) (rowShort s (length (lent .records)) (lent .xs) (lent .marks)) lent (record { answer = Answer.Done; memory = cleared s lent }) ok
+  both = two-tests (outsideLimits s) (rowShort s (length (lent .records)) (lent .xs) (lent .marks)) lent
+      (record { answer = Answer.Done; memory = cleared s lent }) ok
 
   pub setup-within : WithinLimits s
   setup-within = limits s (subst T (sym (not-false (permitted s) (both .0))) tt)
@@ -73,10 +63,13 @@ cleared-fit s lent = record {
 pub fresh-fit : (s : Settings) (lent : Memory) → SetUp s lent → Fit s (setup s lent .memory)
 fresh-fit s lent ok = rw (setup-memory s lent ok) (cleared-fit s lent)
 
-pub fresh-idle : (s : Settings) (lent : Memory) → SetUp s lent → (p : ℕ) → p < s .n → stateOf (setup s lent .memory) p ≡ Idle
-fresh-idle s lent ok p l = rw (setup-memory s lent ok) (ap (λ (r : Record). r .state) (fill-at (s .n) p idle idle (lent .records) l))
+pub fresh-idle : (s : Settings) (lent : Memory) → SetUp s lent → (p : ℕ) → p < s .n
+    → stateOf (setup s lent .memory) p ≡ Idle
+fresh-idle s lent ok p l = rw (setup-memory s lent ok)
+    (ap (λ (r : Record). r .state) (fill-at (s .n) p idle idle (lent .records) l))
 
 pub fresh-none-out : (s : Settings) (lent : Memory) → SetUp s lent → outOf s (setup s lent .memory .records) ≡ 0
 fresh-none-out s lent ok =
     rw (setup-memory s lent ok)
-    (count-none (λ p. isOut (getD (fill (s .n) idle (lent .records)) p idle .state)) (s .n) (λ p l. rw (fill-at (s .n) p idle idle (lent .records) l)))
+    (count-none (λ p. isOut (getD (fill (s .n) idle (lent .records)) p idle .state)) (s .n)
+    (λ p l. rw (fill-at (s .n) p idle idle (lent .records) l)))

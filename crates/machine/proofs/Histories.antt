@@ -1,52 +1,36 @@
 -- Histories: what holds after setup and is kept by every call, accepted or refused, holds after every list of calls.
-use mathlib.Core.Path.{_≡_, refl, ap}
-use mathlib.Core.Bool.{true≢false, false}
-use mathlib.Core.List.{List, [], _∷_, _++_}
+use mathlib.Core.{Path.{_≡_, refl, ap}, Bool.{true≢false, false}, List.{List, [], _∷_, _++_}}
 use Prim.Native.Nat.{ℕ, suc, _≤_, _<_, zero-le}
-use native.Mathlib.Nat.{le-trans, not-suc-le-zero}
-use native.Mathlib.Decide.{ℕ-discrete}
-use native.Mathlib.Omega.{arith}
+use native.Mathlib.{Nat.{le-trans, not-suc-le-zero}, Decide.ℕ-discrete, Omega.arith}
 use lib.Dec.{T}
 use borrow.Author.Tests.{leb-false}
-use Rattle.machine.specs.Settings.{width}
-use Rattle.machine.specs.Records.{isOut}
+use Rattle.machine.specs.{Settings.width, Records.isOut, Memory.{Memory, marksNeeded, stateOf, outOf, fill}}
+use Rattle.machine.specs.{Refusals.wrongMoment, Calls.{Outcome, call, accept, setup}}
+use Rattle.machine.specs.{History.{run, Answered, history}, Demands.{SetUp, memoryAfter}}
+use Rattle.machine.specs.declared.{Settings.Settings, State.{State, the-variants.{Idle, Seeking, Holding}}}
+use Rattle.machine.specs.declared.{Kind.{Kind, the-variants.{Ask, Turn, Release}}, Event.Event}
+use Rattle.machine.specs.Ranges.{WithinLimits}
 use Rattle.counting.specs.Counting.{count}
-use Rattle.machine.specs.Memory.{Memory, marksNeeded, stateOf, outOf, fill}
-use Rattle.machine.specs.Refusals.{wrongMoment}
-use Rattle.machine.specs.Calls.{Outcome, call, accept, setup}
-use Rattle.machine.specs.History.{run, Answered, history}
-use Rattle.machine.specs.Demands.{SetUp, memoryAfter}
-use Rattle.machine.specs.declared.Settings.{Settings}
-use Rattle.machine.specs.declared.State.{State}
-use Rattle.machine.specs.declared.State.the-variants.{Idle, Seeking, Holding}
-use Rattle.machine.specs.declared.Kind.{Kind}
-use Rattle.machine.specs.declared.Kind.the-variants.{Ask, Turn, Release}
-use Rattle.machine.specs.declared.Event.{Event}
-use Rattle.counting.proofs.Bools.{is-false}
-use Rattle.counting.proofs.Searching.{count-none}
+use Rattle.counting.proofs.{Bools.is-false, Searching.count-none, Counting.{count-most, count-but-one}}
 use Rattle.machine.proofs.Fresh.{fill-at, setup-within, setup-memory, fresh-idle, fresh-none-out, fresh-fit}
-use Rattle.counting.proofs.Counting.{count-most, count-but-one}
-use Rattle.grid.proofs.Cover.{beyond, beyond-out}
-use Rattle.grid.proofs.Stands.{Rules, idle, Grid, Marks, HoldsAt, columnReach}
-use Rattle.grid.proofs.Covered.{reachOf}
-use Rattle.grid.proofs.Invariant.{AllInPlace, Invariant, invariant-kept}
 use Rattle.machine.proofs.Seen.{rulesOf, standOf, gridOf, all-unmarked}
 use Rattle.machine.proofs.Steps.{in-place, others-after, accepted-step}
-use Rattle.machine.proofs.Outcomes.{Called, taken, refused, called}
-use Rattle.machine.proofs.Passed.{Fit, May}
-use Rattle.machine.specs.Ranges.{WithinLimits}
-use Rattle.machine.proofs.Fitting.{accept-fits}
+use Rattle.machine.proofs.{Outcomes.{Called, taken, refused, called}, Passed.{Fit, May}, Fitting.accept-fits}
 use Rattle.machine.proofs.Refusing.{ruled}
+use Rattle.grid.proofs.{Cover.{beyond, beyond-out}, Stands.{Rules, idle, Grid, Marks, HoldsAt, columnReach}}
+use Rattle.grid.proofs.{Covered.reachOf, Invariant.{AllInPlace, Invariant, invariant-kept}}
 
 -- ---- lists of calls
 
 -- what every call keeps, every list of calls keeps
-pub run-keeps : (s : Settings) (Kept : Memory → Type 0) → ((event : Event) (m : Memory) → Kept m → Kept (call s event m .memory))
+pub run-keeps : (s : Settings) (Kept : Memory → Type 0)
+    → ((event : Event) (m : Memory) → Kept m → Kept (call s event m .memory))
     → (events : List Event) (m : Memory) → Kept m → Kept (run s events m)
 run-keeps s Kept step [] m h = h
 run-keeps s Kept step (event ∷ events) m h = run-keeps s Kept step events (call s event m .memory) (step event m h)
 
-pub run-append : (s : Settings) (events more : List Event) (m : Memory) → run s (events ++ more) m ≡ run s more (run s events m)
+pub run-append : (s : Settings) (events more : List Event) (m : Memory)
+    → run s (events ++ more) m ≡ run s more (run s events m)
 run-append s [] more m = refl
 run-append s (event ∷ events) more m = run-append s events more (call s event m .memory)
 
@@ -83,11 +67,13 @@ module _ (s : Settings) (fair : WithinLimits s) where
       (λ q _ t. reaches-out (stateOf memory q) (beyond-out (reachOf (gridOf s memory)) 0 0 q t .1))
 
   -- a call keeps them, as long as no more than m are out
-  pub good-kept : (m : ℕ) (event : Event) (memory : Memory) → Good m memory → outOf s (call s event memory .memory .records) ≤ m
+  pub good-kept : (m : ℕ) (event : Event) (memory : Memory) → Good m memory
+      → outOf s (call s event memory .memory .records) ≤ m
       → Good m (call s event memory .memory)
   good-kept m event memory g = go (call s event memory) (called s fair event memory (g .sound))
     where
-      go : (outcome : Outcome) → Called s event memory outcome → outOf s (outcome .memory .records) ≤ m → Good m (outcome .memory)
+      go : (outcome : Outcome) → Called s event memory outcome → outOf s (outcome .memory .records) ≤ m
+          → Good m (outcome .memory)
       go outcome (refused why) few = g
       go outcome (taken o) few = record {
         sound = accept-fits s fair (event .kind) (event .task .0) memory (g .sound) (o .known) (o .moment);
@@ -109,24 +95,31 @@ module _ (s : Settings) (fair : WithinLimits s) where
   release-out (Holding r c) e = tt
 
   module _ (kind : Kind) (p : ℕ) (memory : Memory) (sound : Fit s memory) (below : p < s .n) where
-    still-out : (q : ℕ) → (q ≡ p → ⊥) → T (isOut (stateOf (accept s kind p (stateOf memory p) memory .memory) q)) → T (isOut (stateOf memory q))
+    still-out : (q : ℕ) → (q ≡ p → ⊥) → T (isOut (stateOf (accept s kind p (stateOf memory p) memory .memory) q))
+        → T (isOut (stateOf memory q))
     still-out q d t = rw (others-after s fair memory sound p below kind (stateOf memory p) q d) at t
 
-    pub one-more-out : outOf s (accept s kind p (stateOf memory p) memory .memory .records) ≤ suc (outOf s (memory .records))
+    pub one-more-out : outOf s (accept s kind p (stateOf memory p) memory .memory .records) ≤ suc
+        (outOf s (memory .records))
     one-more-out =
-        count-but-one (λ q. isOut (stateOf (accept s kind p (stateOf memory p) memory .memory) q)) (λ q. isOut (stateOf memory q)) (s .n) p
+        count-but-one (λ q. isOut (stateOf (accept s kind p (stateOf memory p) memory .memory) q))
+        (λ q. isOut (stateOf memory q)) (s .n) p
         (λ q _ d t. still-out q d t)
 
-    none-more-out : T (isOut (stateOf memory p)) → outOf s (accept s kind p (stateOf memory p) memory .memory .records) ≤ outOf s (memory .records)
+    none-more-out : T (isOut (stateOf memory p))
+        → outOf s (accept s kind p (stateOf memory p) memory .memory .records) ≤ outOf s (memory .records)
     none-more-out was =
-        count-most (λ q. isOut (stateOf (accept s kind p (stateOf memory p) memory .memory) q)) (λ q. isOut (stateOf memory q)) (s .n)
+        count-most (λ q. isOut (stateOf (accept s kind p (stateOf memory p) memory .memory) q))
+        (λ q. isOut (stateOf memory q)) (s .n)
         (λ q _ t. go q t (ℕ-discrete q p))
       where
-        go : (q : ℕ) → T (isOut (stateOf (accept s kind p (stateOf memory p) memory .memory) q)) → Dec (q ≡ p) → T (isOut (stateOf memory q))
+        go : (q : ℕ) → T (isOut (stateOf (accept s kind p (stateOf memory p) memory .memory) q)) → Dec (q ≡ p)
+            → T (isOut (stateOf memory q))
         go q t (yes e) = rw e was
         go q t (no d) = still-out q d t
 
-  accepted-few : (kind : Kind) (p : ℕ) (memory : Memory) → Fit s memory → May s (record { kind = kind; task = record { 0 = p } }) memory
+  accepted-few : (kind : Kind) (p : ℕ) (memory : Memory) → Fit s memory
+      → May s (record { kind = kind; task = record { 0 = p } }) memory
       → outOf s (memory .records) ≤ s .k → outOf s (accept s kind p (stateOf memory p) memory .memory .records) ≤ s .k
   accepted-few Ask p memory sound o few =
       le-trans (one-more-out Ask p memory sound (o .known)) (leb-false (s .k) (outOf s (memory .records)) (o .room))
@@ -158,14 +151,16 @@ module _ (s : Settings) (fair : WithinLimits s) where
   -- ---- setup
 
   -- a grid where everybody is idle and no mark is set
-  idle-invariant : (m : ℕ) (v : Grid) → ((q : ℕ) → q < s .n → v .stand q ≡ idle) → ((r c l : ℕ) → v .mark r c l ≡ 0) → Invariant rules m v
+  idle-invariant : (m : ℕ) (v : Grid) → ((q : ℕ) → q < s .n → v .stand q ≡ idle) → ((r c l : ℕ) → v .mark r c l ≡ 0)
+      → Invariant rules m v
   idle-invariant m v nobody unmarked = record {
     mark-set = λ r c q l b t. absurd (let z : Marks (width s) idle r c = rw (nobody q l) at t in z);
     mark-owned = λ _ r c q l b e. absurd (omega (arith, unmarked r c (rules .own q)));
     mark-witnessed = λ _ r c l b h e. absurd (omega (arith, unmarked r c l));
     holder-alone = λ p q r c lp lq d b h. absurd (let z : HoldsAt idle r c = rw (nobody p lp) at h in z);
     covered = λ r c l. rw (count-none (beyond (reachOf v) r c) (s .n) (λ q h. is-false (beyond (reachOf v) r c q) (λ t.
-        let z : c < columnReach idle = rw (nobody q h) at (beyond-out (reachOf v) r c q t .1) in not-suc-le-zero z))) (omega arith);
+        let z : c < columnReach idle = rw (nobody q h) at (beyond-out (reachOf v) r c q t .1) in not-suc-le-zero z)))
+        (omega arith);
   }
 
 module _ (s : Settings) (lent : Memory) (ok : SetUp s lent) where
@@ -188,4 +183,5 @@ module _ (s : Settings) (lent : Memory) (ok : SetUp s lent) where
 
   pub always-fine : (events : List Event) → Fine s (setup-within s lent ok) (memoryAfter s lent events)
   always-fine events =
-      run-keeps s (Fine s (setup-within s lent ok)) (fine-kept s (setup-within s lent ok)) events (setup s lent .memory) fresh-fine
+      run-keeps s (Fine s (setup-within s lent ok)) (fine-kept s (setup-within s lent ok)) events
+      (setup s lent .memory) fresh-fine

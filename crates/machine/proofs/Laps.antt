@@ -1,31 +1,18 @@
--- Tasks that take their turns one task after the other, each call accepted: what each leaves, and what all together leave.
-use mathlib.Core.Path.{_≡_, refl, ap, subst, _∙_}
-use mathlib.Core.Bool.{not}
-use mathlib.Core.List.{List, [], _∷_}
+-- Tasks that take their turns one task after the other, each call accepted: what each leaves, and what all together
+-- leave.
+use mathlib.Core.{Path.{_≡_, refl, ap, subst, _∙_}, Bool.not, List.{List, [], _∷_}}
 use Prim.Native.Nat.{ℕ, zero, suc, _≤_, _<_}
-use native.Mathlib.Nat.{le-refl, not-suc-le-zero}
-use native.Mathlib.Decide.{decLt}
-use native.Mathlib.Omega.{arith}
+use native.Mathlib.{Nat.{le-refl, not-suc-le-zero}, Decide.decLt, Omega.arith}
 use lib.Dec.{T}
 use borrow.Author.Tests.{lt-leb}
-use Rattle.machine.specs.Records.{isIdle, isSeeking}
-use Rattle.machine.specs.Memory.{Memory, stateOf, outOf}
-use Rattle.machine.specs.Answers.{isAccepted}
+use Rattle.machine.specs.{Records.{isIdle, isSeeking}, Memory.{Memory, stateOf, outOf}, Answers.isAccepted}
 use Rattle.machine.specs.Calls.{Outcome, nextState, accept, call, eventOf}
-use Rattle.machine.proofs.Worst.{each}
-use Rattle.machine.specs.declared.Settings.{Settings}
-use Rattle.machine.specs.declared.Point.{Point}
-use Rattle.machine.specs.declared.State.{State}
-use Rattle.machine.specs.declared.State.the-variants.{Idle, Seeking}
-use Rattle.machine.specs.declared.Kind.{Kind}
-use Rattle.machine.specs.declared.Kind.the-variants.{Ask, Turn}
-use Rattle.machine.specs.declared.Event.{Event}
-use Rattle.machine.proofs.Steps.{caller-after, others-after}
-use Rattle.machine.proofs.Outcomes.{accepted-answer, may-accepted}
-use Rattle.machine.proofs.Histories.{Fine, fine-kept}
-use Rattle.machine.proofs.Leads.{Leads, leads-nowhere, leads-more, leads-append}
-use Rattle.machine.proofs.Passed.{May}
+use Rattle.machine.specs.declared.{Settings.Settings, Point.Point, State.{State, the-variants.{Idle, Seeking}}}
+use Rattle.machine.specs.declared.{Kind.{Kind, the-variants.{Ask, Turn}}, Event.Event}
 use Rattle.machine.specs.Ranges.{WithinLimits}
+use Rattle.machine.proofs.{Worst.each, Steps.{caller-after, others-after}}
+use Rattle.machine.proofs.{Outcomes.{accepted-answer, may-accepted}, Histories.{Fine, fine-kept}}
+use Rattle.machine.proofs.{Leads.{Leads, leads-nowhere, leads-more, leads-append}, Passed.May}
 
 module _ (s : Settings) (fair : WithinLimits s) where
   -- an accepted call of task p, whose record says `state`
@@ -57,14 +44,16 @@ module _ (s : Settings) (fair : WithinLimits s) where
 module _ {s : Settings} {fair : WithinLimits s} where
   -- ---- one call
 
-  took : (kind : Kind) (p : ℕ) (state : State) (m : Memory) → Fine s fair m → stateOf m p ≡ state → May s (eventOf kind p) m
+  took : (kind : Kind) (p : ℕ) (state : State) (m : Memory) → Fine s fair m → stateOf m p ≡ state
+      → May s (eventOf kind p) m
       → Took s fair kind p state m
   took kind p state m f e o =
       let does : call s (eventOf kind p) m ≡ accept s kind p state m =
       may-accepted s fair (eventOf kind p) m (f .good .sound) o ∙ ap (λ (z : State). accept s kind p z m) e in
       record {
         does = does;
-        says = subst (λ (z : State). T (isAccepted (accept s kind p z m .answer))) e (rw (accepted-answer s (eventOf kind p) m) tt);
+        says = subst (λ (z : State). T (isAccepted (accept s kind p z m .answer))) e
+            (rw (accepted-answer s (eventOf kind p) m) tt);
         fine = rw (ap (λ (o : Outcome). o .memory) does) at (fine-kept s fair (eventOf kind p) m f);
         its = caller-after s fair m (f .good .sound) p (o .known) kind state;
         others = others-after s fair m (f .good .sound) p (o .known) kind state;
@@ -73,21 +62,31 @@ module _ {s : Settings} {fair : WithinLimits s} where
   pub turn-took : (p r c : ℕ) (point : Point) (m : Memory) → Fine s fair m → p < s .n → stateOf m p ≡ Seeking r c point
       → Took s fair Turn p (Seeking r c point) m
   turn-took p r c point m f l e =
-      took Turn p (Seeking r c point) m f e (record { known = l; lived = refl; moment = ap (λ (z : State). not (isSeeking z)) e; room = refl })
+      took Turn p (Seeking r c point) m f e
+      (record { known = l; lived = refl; moment = ap (λ (z : State). not (isSeeking z)) e; room = refl })
 
-  pub ask-took : (p : ℕ) (m : Memory) → Fine s fair m → p < s .n → outOf s (m .records) < s .k → stateOf m p ≡ Idle → Took s fair Ask p Idle m
+  pub ask-took : (p : ℕ) (m : Memory) → Fine s fair m → p < s .n → outOf s (m .records) < s .k → stateOf m p ≡ Idle
+      → Took s fair Ask p Idle m
   ask-took p m f l few e =
       took Ask p Idle m f e
-      (record { known = l; lived = refl; moment = ap (λ (z : State). not (isIdle z)) e; room = lt-leb (s .k) (outOf s (m .records)) few })
+      (record {
+        known = l;
+        lived = refl;
+        moment = ap (λ (z : State). not (isIdle z)) e;
+        room = lt-leb (s .k) (outOf s (m .records)) few;
+      })
 
   -- ---- one task, and then the next
 
-  pub lap-over : {Keeps : Memory → Type 0} {p : ℕ} {state : State} (m : Memory) → Fine s fair m → Keeps m → stateOf m p ≡ state
+  pub lap-over : {Keeps : Memory → Type 0} {p : ℕ} {state : State} (m : Memory) → Fine s fair m → Keeps m
+      → stateOf m p ≡ state
       → Lap s fair Keeps p state [] m
   lap-over m f k e = record { last = m; leads = leads-nowhere; fine = f; keeps = k; its = e; others = λ q d. refl }
 
-  pub lap-more : {Keeps : Memory → Type 0} {kind : Kind} {p : ℕ} {state to : State} {events : List Event} {m : Memory} → Took s fair kind p state m
-      → Lap s fair Keeps p to events (accept s kind p state m .memory) → Lap s fair Keeps p to (eventOf kind p ∷ events) m
+  pub lap-more : {Keeps : Memory → Type 0} {kind : Kind} {p : ℕ} {state to : State} {events : List Event} {m : Memory}
+      → Took s fair kind p state m
+      → Lap s fair Keeps p to events (accept s kind p state m .memory)
+      → Lap s fair Keeps p to (eventOf kind p ∷ events) m
   lap-more {kind = kind} {p = p} {state = state} {m = m} t lap = record {
     last = lap .last;
     leads = leads-more (accept s kind p state m) (t .does) (t .says) (lap .leads);
@@ -99,10 +98,19 @@ module _ {s : Settings} {fair : WithinLimits s} where
 
   -- each of the tasks n - 1 .. 0 in turn
   pub laps : (Keeps : ℕ → Memory → Type 0) (from to : State) (does : ℕ → List Event) (n : ℕ)
-      → ((p : ℕ) (m : Memory) → p < n → Fine s fair m → Keeps (suc p) m → stateOf m p ≡ from → Lap s fair (Keeps p) p to (does p) m)
-      → (m : Memory) → Fine s fair m → Keeps n m → ((q : ℕ) → q < n → stateOf m q ≡ from) → Laps s fair (Keeps 0) n to (each does n) m
+      → ((p : ℕ) (m : Memory) → p < n → Fine s fair m → Keeps (suc p) m → stateOf m p ≡ from
+      → Lap s fair (Keeps p) p to (does p) m)
+      → (m : Memory) → Fine s fair m → Keeps n m → ((q : ℕ) → q < n → stateOf m q ≡ from)
+      → Laps s fair (Keeps 0) n to (each does n) m
   laps Keeps from to does zero lap m f k all =
-      record { last = m; leads = leads-nowhere; fine = f; keeps = k; theirs = λ q l. absurd (not-suc-le-zero l); others = λ q l. refl }
+      record {
+        last = m;
+        leads = leads-nowhere;
+        fine = f;
+        keeps = k;
+        theirs = λ q l. absurd (not-suc-le-zero l);
+        others = λ q l. refl;
+      }
   laps Keeps from to does (suc n) lap m f k all =
       let one = lap n m (le-refl (suc n)) f k (all n (le-refl (suc n))) in
       let rest = laps Keeps from to does n (λ p m₁ l. lap p m₁ (omega arith)) (one .last) (one .fine) (one .keeps)
@@ -116,6 +124,7 @@ module _ {s : Settings} {fair : WithinLimits s} where
         others = λ q l. rest .others q (omega arith) ∙ one .others q (λ d. omega arith);
       }
     where
-      go : (m : Memory) (q : ℕ) → q < suc n → Dec (q < n) → (q < n → stateOf m q ≡ to) → stateOf m n ≡ to → stateOf m q ≡ to
+      go : (m : Memory) (q : ℕ) → q < suc n → Dec (q < n) → (q < n → stateOf m q ≡ to) → stateOf m n ≡ to
+          → stateOf m q ≡ to
       go m q l (yes h) before last = before h
       go m q l (no h) before last = let e : q ≡ n = omega arith in rw e last

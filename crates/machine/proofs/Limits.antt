@@ -1,13 +1,9 @@
 -- What permitted settings say, taken out of the one test and put back, and how many marks a block then has.
-use mathlib.Core.Path.{_≡_, refl}
-use mathlib.Core.Logic.{_⊎_, inl, inr, ⊎-elim, _↔_}
-use mathlib.Core.Bool.{Bool, true, false, cond}
+use mathlib.Core.{Path.{_≡_, refl}, Logic.{_⊎_, inl, inr, ⊎-elim, _↔_}, Bool.{Bool, true, false, cond}}
 use Prim.Native.Nat.{ℕ, zero, suc, _≤_}
 use native.Mathlib.Omega.{arith}
 use lib.Dec.{T, eqb}
-use Rattle.machine.specs.Settings.{permitted, width}
-use Rattle.machine.specs.Ranges.{WithinLimits}
-use Rattle.machine.specs.declared.Settings.{Settings}
+use Rattle.machine.specs.{Settings.{permitted, width}, Ranges.WithinLimits, declared.Settings.Settings}
 use Rattle.counting.proofs.Tested.{Tested, most, both, meaning}
 
 pub zero-or-one : (mode : ℕ) → (mode ≤ 1) ↔ ((mode ≡ 0) ⊎ (mode ≡ 1))
@@ -22,7 +18,8 @@ pub limits-tested : (s : Settings) → Tested (permitted s) (WithinLimits s)
 limits-tested s =
     meaning
     (both (meaning (most (s .mode) 1) (zero-or-one (s .mode)))
-    (both (most 1 (s .n)) (both (most (s .n) 256) (both (most 1 (s .k)) (both (most (s .k) 16) (most (s .k) (s .n))))))) (
+    (both (most 1 (s .n)) (both (most (s .n) 256)
+    (both (most 1 (s .k)) (both (most (s .k) 16) (most (s .k) (s .n))))))) (
       λ (modes, (n-least, (n-most, (k-least, (k-most, k-within))))). record {
         modes = modes;
         n-least = n-least;

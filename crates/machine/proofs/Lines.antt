@@ -1,29 +1,20 @@
 -- Each line of the table of numbers against the test that the definitions make for it.
-use mathlib.Core.Path.{_≡_, refl}
-use mathlib.Core.Logic.{_⊎_, inl, inr, ⊎-elim, _↔_}
-use mathlib.Core.Bool.{Bool, false, not}
-use Prim.Native.Nat.{ℕ, _+_, _-_, _*_, _/_, _≤_, _<_}
+use mathlib.Core.{Path.{_≡_, refl}, Logic.{_⊎_, inl, inr, ⊎-elim, _↔_}, Bool.{Bool, false, not}}
+use Prim.Native.Nat.{ℕ, _+_, _≤_, _<_}
 use native.Mathlib.Omega.{arith}
-use lib.Dec.{leb, ltb}
-use lib.ListN.{length, getD}
-use Rattle.machine.specs.Settings.{width}
-use Rattle.grid.specs.Triangle.{half}
-use Rattle.machine.specs.Places.{blocks}
+use lib.{Dec.{leb, ltb}, ListN.{length, getD}}
+use Rattle.machine.specs.{Settings.width, Places.blocks}
 use Rattle.machine.specs.Records.{isIdle, isSeeking, isHolding, isOut, pointInRange, stateInRange, recordInRange}
-use Rattle.counting.specs.Counting.{count}
 use Rattle.machine.specs.Memory.{Memory, marksNeeded, recordOf, stateOf, xInRange, markInRange, outOf}
 use Rattle.machine.specs.Refusals.{rowShort, oneTimeRelease, wrongMoment, tooManyOut}
 use Rattle.machine.specs.Ranges.{WithinLimits, NeedsMore, PointWithin, StateWithin, BadAt, seeksOrHolds}
 use Rattle.machine.specs.declared.Settings.{Settings}
-use Rattle.machine.specs.declared.Point.{Point}
-use Rattle.machine.specs.declared.Point.the-variants.{WriteX, Scan, WriteMark, ReadX, Clear}
-use Rattle.machine.specs.declared.State.{State}
-use Rattle.machine.specs.declared.State.the-variants.{Idle, Seeking, Holding}
-use Rattle.machine.specs.declared.Kind.{Kind}
-use Rattle.machine.specs.declared.Kind.the-variants.{Ask, Turn, Release}
-use Rattle.machine.specs.declared.Row.{Row}
-use Rattle.machine.specs.declared.Row.the-variants.{Records, Xs, Marks}
+use Rattle.machine.specs.declared.Point.{Point, the-variants.{WriteX, Scan, WriteMark, ReadX, Clear}}
+use Rattle.machine.specs.declared.State.{State, the-variants.{Idle, Seeking, Holding}}
+use Rattle.machine.specs.declared.Kind.{Kind, the-variants.{Ask, Turn, Release}}
+use Rattle.machine.specs.declared.Row.{Row, the-variants.{Records, Xs, Marks}}
 use Rattle.machine.specs.Refusing.{SomeRowShort, NotTheMoment, tasksOut}
+use Rattle.grid.specs.Triangle.{half}
 use Rattle.counting.proofs.Tested.{Tested, below, most, same, both, either, fails, meaning, always, never}
 use Rattle.counting.proofs.Searching.{count-same}
 
@@ -41,7 +32,11 @@ module _ (s : Settings) (l : WithinLimits s) where
   marks-line n = go (l .modes)
     where
       go : (s .mode ≡ 0) ⊎ (s .mode ≡ 1) → (n < marksNeeded s) ↔ NeedsMore s Marks n
-      go (inl once) = rw once (λ h. inl (refl, omega arith), ⊎-elim (λ h. let z = h .1 in omega arith) (λ h. let e = h .0 in absurd (omega arith)))
+      go (inl once) = rw once (
+        λ h. inl (refl, omega arith),
+        ⊎-elim (λ h. let z = h .1 in omega arith)
+            (λ h. let e = h .0 in absurd (omega arith)),
+      )
       go (inr long) = rw long (λ h. inr (refl, h), ⊎-elim (λ h. let e = h .0 in absurd (omega arith)) (λ h. h .1))
 
   pub needs-line : (row : Row) (n : ℕ) → (n < neededOf s row) ↔ NeedsMore s row n
@@ -54,7 +49,8 @@ module _ (s : Settings) (l : WithinLimits s) where
   short row n = meaning (below n (neededOf s row)) (needs-line row n)
 
   pub short-line : (m : Memory) → Tested (rowShort s (length (m .records)) (m .xs) (m .marks)) (SomeRowShort s m)
-  short-line m = either (short Records (length (m .records))) (either (short Xs (length (m .xs))) (short Marks (length (m .marks))))
+  short-line m = either (short Records (length (m .records)))
+      (either (short Xs (length (m .xs))) (short Marks (length (m .marks))))
 
   -- ---- 3: a needed value is out of range
 
@@ -112,7 +108,8 @@ idle-tested Idle = always refl
 idle-tested (Seeking r c point) = never (λ e. let z : _≡_ {A = ℕ} 0 1 = cc in omega arith)
 idle-tested (Holding r c) = never (λ e. let z : _≡_ {A = ℕ} 0 1 = cc in omega arith)
 
-seeking-tested : (state : State) → Tested (not (isSeeking state)) ((r c : ℕ) (point : Point) → state ≡ Seeking r c point → ⊥)
+seeking-tested : (state : State) → Tested (not (isSeeking state))
+    ((r c : ℕ) (point : Point) → state ≡ Seeking r c point → ⊥)
 seeking-tested Idle = always (λ r c point e. let z : _≡_ {A = ℕ} 0 1 = cc in omega arith)
 seeking-tested (Seeking r c point) = never (λ none. none r c point refl)
 seeking-tested (Holding r c) = always (λ r c point e. let z : _≡_ {A = ℕ} 0 1 = cc in omega arith)
@@ -134,9 +131,11 @@ out-same (Seeking r c point) = refl
 out-same (Holding r c) = refl
 
 pub tasks-out : (s : Settings) (m : Memory) → outOf s (m .records) ≡ tasksOut s m
-tasks-out s m = count-same (λ p. isOut (stateOf m p)) (λ p. seeksOrHolds (stateOf m p)) (s .n) (λ p l. out-same (stateOf m p))
+tasks-out s m = count-same (λ p. isOut (stateOf m p)) (λ p. seeksOrHolds (stateOf m p)) (s .n)
+    (λ p l. out-same (stateOf m p))
 
-pub out-line : (s : Settings) (kind : Kind) (m : Memory) → Tested (tooManyOut s kind (outOf s (m .records))) ((kind ≡ Ask) × (s .k ≤ tasksOut s m))
+pub out-line : (s : Settings) (kind : Kind) (m : Memory)
+    → Tested (tooManyOut s kind (outOf s (m .records))) ((kind ≡ Ask) × (s .k ≤ tasksOut s m))
 out-line s Ask m = rw (tasks-out s m) (meaning (most (s .k) (tasksOut s m)) (λ many. (refl, many), λ h. h .1))
 out-line s Turn m = other-kind Turn Ask (λ e. let z : _≡_ {A = ℕ} 0 1 = cc in omega arith)
 out-line s Release m = other-kind Release Ask (λ e. let z : _≡_ {A = ℕ} 0 1 = cc in omega arith)

@@ -1,20 +1,13 @@
--- Demand 3, "Tasks holding names hold different ones, all below k(k+1)/2": no two tasks hold one place, and different places have different names.
-use mathlib.Core.Path.{_≡_, refl}
-use mathlib.Core.List.{List}
+-- Demand 3, "Tasks holding names hold different ones, all below k(k+1)/2": no two tasks hold one place, and different
+-- places have different names.
+use mathlib.Core.{Path.{_≡_, refl}, List.List}
 use Prim.Native.Nat.{ℕ, _+_, _<_}
 use native.Mathlib.Omega.{arith}
-use lib.Dec.{T}
-use Rattle.machine.specs.Memory.{Memory, stateOf}
-use Rattle.machine.specs.Demands.{SetUp, memoryAfter}
-use Rattle.machine.specs.declared.Settings.{Settings}
-use Rattle.machine.specs.declared.State.the-variants.{Holding}
-use Rattle.machine.specs.declared.Event.{Event}
-use Rattle.machine.proofs.Fresh.{setup-within}
-use Rattle.grid.proofs.Stands.{InPlace, at, holding}
-use Rattle.grid.proofs.Invariant.{AllInPlace, one-holder}
-use Rattle.machine.proofs.Seen.{gridOf}
-use Rattle.machine.proofs.Histories.{rules, all-in-place, Fine, always-fine}
+use Rattle.machine.specs.{Memory.{Memory, stateOf}, Demands.{SetUp, memoryAfter}}
+use Rattle.machine.specs.declared.{Settings.Settings, State.the-variants.Holding, Event.Event}
 use Rattle.machine.specs.Ranges.{WithinLimits}
+use Rattle.machine.proofs.{Fresh.setup-within, Seen.gridOf, Histories.{rules, all-in-place, Fine, always-fine}}
+use Rattle.grid.proofs.{Stands.{InPlace, at, holding}, Invariant.{AllInPlace, one-holder}}
 
 -- ---- where a task holds
 

@@ -1,18 +1,15 @@
 -- Names are a triangle of side k, blocks one of side k - 1.
 use mathlib.Core.Path.{_≡_, ap, _∙_}
 use Prim.Native.Nat.{ℕ, suc, _+_, _-_, _*_, _≤_}
-use native.Mathlib.Nat.{mul-suc}
-use native.Mathlib.Numerals.{add-one}
-use native.Mathlib.Omega.{arith}
-use Rattle.grid.specs.Triangle.{half, Numbering}
-use Rattle.grid.proofs.Triangle.{half-suc, half-square, triangle}
-use Rattle.machine.specs.Places.{blocks, blockNumber, names, nameNumber}
-use Rattle.machine.specs.declared.Settings.{Settings}
+use native.Mathlib.{Nat.mul-suc, Numerals.add-one, Omega.arith}
+use Rattle.grid.{specs.Triangle.{half, Numbering}, proofs.Triangle.{half-suc, half-square, triangle}}
+use Rattle.machine.specs.{Places.{blocks, blockNumber, names, nameNumber}, declared.Settings.Settings}
 
 pub names-half : (s : Settings) → names s ≡ half (s .k) + s .k
 names-half s =
     let h = half-square (s .k) in
-    let e : s .k * (s .k + 1) ≡ s .k * s .k + s .k = ap (λ (n : ℕ). s .k * n) (add-one (s .k)) ∙ mul-suc (s .k) (s .k) in
+    let e : s .k * (s .k + 1) ≡ s .k * s .k + s .k = ap (λ (n : ℕ). s .k * n) (add-one (s .k))
+    ∙ mul-suc (s .k) (s .k) in
     rw e (omega arith)
 
 pub blocks-half : (s : Settings) → 1 ≤ s .k → blocks s ≡ half (s .k - 1) + (s .k - 1)

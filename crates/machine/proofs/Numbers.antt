@@ -1,17 +1,19 @@
 -- The numbers of blocks and names are those that 01 writes, and the tests of a state say what they are called.
 use mathlib.Core.Path.{_≡_, refl}
-use mathlib.Core.Logic.{_↔_}
-use mathlib.Core.Bool.{Bool, true, false}
 use Prim.Native.Nat.{ℕ}
 use native.Mathlib.Omega.{arith}
-use lib.Dec.{T}
 use Rattle.grid.specs.Triangle.{half, placeNumber}
 use Rattle.machine.specs.Numbers.{EachNumbered, EachStateTold}
 use Rattle.machine.specs.declared.State.the-variants.{Idle, Seeking, Holding}
 
 pub places-numbered : EachNumbered
 unfolding half placeNumber
-places-numbered s = record { block-count = refl; block-at = λ r c on. refl; name-count = refl; name-at = λ r c on. refl }
+places-numbered s = record {
+  block-count = refl;
+  block-at = λ r c on. refl;
+  name-count = refl;
+  name-at = λ r c on. refl;
+}
 
 -- states of two kinds are not equal
 pub state-told : EachStateTold

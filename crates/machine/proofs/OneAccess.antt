@@ -1,30 +1,21 @@
--- Which register a call touches: exactly one in a turn of a seeking task, none in an ask, at most its own mark in a release; always a needed one.
-use mathlib.Core.Path.{_≡_, refl}
-use mathlib.Core.Bool.{Bool, true, false, cond}
+-- Which register a call touches: exactly one in a turn of a seeking task, none in an ask, at most its own mark in a
+-- release; always a needed one.
+use mathlib.Core.{Path.{_≡_, refl}, Bool.{Bool, true, false, cond}}
 use Prim.Native.Nat.{ℕ, _+_, _≤_, _<_}
 use native.Mathlib.Omega.{arith}
-use lib.Dec.{T, eqb, leb}
+use lib.Dec.{T, leb}
 use borrow.Author.Tests.{le-leb, lt-leb, leb-true}
-use Rattle.machine.specs.Settings.{width, own}
-use Rattle.machine.specs.Places.{blocks, blockNumber}
-use Rattle.machine.specs.Records.{pointInRange, stateInRange}
-use Rattle.machine.specs.Memory.{Memory, stateOf}
-use Rattle.machine.specs.Turn.{pointAccess, access, releaseAccess}
+use Rattle.machine.specs.{Settings.{width, own}, Places.blockNumber, Records.{pointInRange, stateInRange}}
+use Rattle.machine.specs.{Memory.{Memory, stateOf}, Turn.{pointAccess, access, releaseAccess}}
 use Rattle.machine.specs.declared.Settings.{Settings}
-use Rattle.machine.specs.declared.Point.{Point}
-use Rattle.machine.specs.declared.Point.the-variants.{WriteX, Scan, WriteMark, ReadX, Clear}
-use Rattle.machine.specs.declared.State.{State}
-use Rattle.machine.specs.declared.State.the-variants.{Idle, Seeking, Holding}
+use Rattle.machine.specs.declared.Point.{Point, the-variants.{WriteX, Scan, WriteMark, ReadX, Clear}}
+use Rattle.machine.specs.declared.State.{State, the-variants.{Idle, Seeking, Holding}}
 use Rattle.machine.specs.declared.Access.the-variants.{NoAccess, MarkWritten}
-use Rattle.machine.specs.declared.Kind.{Kind}
-use Rattle.machine.specs.declared.Kind.the-variants.{Ask, Turn, Release}
-use Rattle.machine.specs.declared.Event.{Event}
+use Rattle.machine.specs.declared.{Kind.{Kind, the-variants.{Ask, Turn, Release}}, Event.Event}
 use Rattle.machine.specs.Ranges.{WithinLimits, StateWithin}
-use Rattle.machine.proofs.Ranges.{scans-a-mark}
-use Rattle.machine.proofs.Lines.{point-line, state-line}
-use Rattle.machine.specs.OneAccess.{XNeeded, MarkNeeded, touches, RegisterNeeded, EachOneAccess, accessOf}
-use Rattle.machine.proofs.Seen.{own-below, block-below, mark-below}
-use Rattle.machine.proofs.Passed.{Passed}
+use Rattle.machine.specs.OneAccess.{MarkNeeded, touches, RegisterNeeded, EachOneAccess, accessOf}
+use Rattle.machine.proofs.{Ranges.scans-a-mark, Lines.{point-line, state-line}}
+use Rattle.machine.proofs.{Seen.{own-below, block-below, mark-below}, Passed.Passed}
 
 -- ---- which register
 
@@ -48,7 +39,11 @@ pub one-access : EachOneAccess
 one-access s l p low = record {
   ask = λ state. refl;
   turn = turn-one s l p low;
-  release-block = λ r c b. (rw (le-leb (r + c + 2) (s .k) b), needed-mark s l p low r c (own s p) b (own-below s l p low));
+  release-block = λ r c b. (
+    rw (le-leb (r + c + 2) (s .k) b),
+    needed-mark s l p low r c (own s p) b
+        (own-below s l p low),
+  );
   release-edge = λ r c e. rw (lt-leb (r + c + 2) (s .k) (let z : s .k < r + c + 2 = omega arith in z));
 }
 
@@ -58,15 +53,18 @@ module _ (s : Settings) (l : WithinLimits s) (p : ℕ) (low : p < s .n) where
   release-needed : (r c : ℕ) → RegisterNeeded s (releaseAccess s p (Holding r c))
   release-needed r c = go (leb (r + c + 2) (s .k)) refl
     where
-      go : (b : Bool) → leb (r + c + 2) (s .k) ≡ b → RegisterNeeded s (cond b (MarkWritten (blockNumber s r c) (own s p) 0) NoAccess)
+      go : (b : Bool) → leb (r + c + 2) (s .k) ≡ b
+          → RegisterNeeded s (cond b (MarkWritten (blockNumber s r c) (own s p) 0) NoAccess)
       go true e = one-access s l p low .release-block r c (leb-true (r + c + 2) (s .k) e) .1
       go false e = tt
 
   -- of a record in range
-  pub access-needed : (kind : Kind) (state : State) → T (stateInRange s state) → RegisterNeeded s (access s kind p state)
+  pub access-needed : (kind : Kind) (state : State) → T (stateInRange s state)
+      → RegisterNeeded s (access s kind p state)
   access-needed Ask state good = tt
   access-needed Turn Idle good = tt
-  access-needed Turn (Seeking r c point) good = one-access s l p low .turn r c point (state-line s l (Seeking r c point) .says good) .1
+  access-needed Turn (Seeking r c point) good =
+      one-access s l p low .turn r c point (state-line s l (Seeking r c point) .says good) .1
   access-needed Turn (Holding r c) good = tt
   access-needed Release Idle good = tt
   access-needed Release (Seeking r c point) good = tt
@@ -74,5 +72,6 @@ module _ (s : Settings) (l : WithinLimits s) (p : ℕ) (low : p < s .n) where
 
 -- of a call that passed its tests
 pub call-needed : (s : Settings) (event : Event) (m : Memory) → Passed s event m → RegisterNeeded s (accessOf s event m)
-call-needed s event m h = access-needed s (h .limits) (event .task .0) (h .may .known) (event .kind) (stateOf m (event .task .0))
+call-needed s event m h = access-needed s (h .limits) (event .task .0) (h .may .known) (event .kind)
+    (stateOf m (event .task .0))
     (h .fit .in-range .records (event .task .0) (h .may .known))

@@ -1,22 +1,16 @@
--- What it says that the tests of a call passed, in three parts: what is lent is long enough, what it holds is in range, and the task may.
-use mathlib.Core.Path.{_≡_}
-use mathlib.Core.Bool.{false}
-use mathlib.Core.List.{List}
+-- What it says that the tests of a call passed, in three parts: what is lent is long enough, what it holds is in range,
+-- and the task may.
+use mathlib.Core.{Path._≡_, Bool.false, List.List}
 use Prim.Native.Nat.{ℕ, _≤_, _<_}
 use native.Mathlib.Nat.{le-refl}
-use lib.Dec.{T, ltb}
-use lib.ListN.{length, getD}
+use lib.{Dec.{T, ltb}, ListN.{length, getD}}
 use borrow.Author.Tests.{le-ltb}
-use Rattle.counting.proofs.Tested.{passes}
-use Rattle.counting.proofs.Searching.{none-bad}
-use Rattle.machine.specs.Places.{blocks}
-use Rattle.machine.specs.Records.{recordInRange}
-use Rattle.machine.specs.Memory.{Memory, marksNeeded, recordOf, stateOf, xInRange, markInRange, badRecord, badX, badMark, outOf, viewOf}
+use Rattle.counting.proofs.{Tested.passes, Searching.none-bad}
+use Rattle.machine.specs.{Places.blocks, Records.recordInRange}
+use Rattle.machine.specs.Memory.{Memory, marksNeeded, recordOf, stateOf, xInRange, markInRange, badRecord, badX}
+use Rattle.machine.specs.Memory.{badMark, outOf, viewOf}
 use Rattle.machine.specs.Refusals.{first, rowShort, oneTimeRelease, wrongMoment, tooManyOut, taskCases}
-use Rattle.machine.specs.Calls.{verdictOf}
-use Rattle.machine.specs.Ranges.{WithinLimits}
-use Rattle.machine.specs.declared.Settings.{Settings}
-use Rattle.machine.specs.declared.Event.{Event}
+use Rattle.machine.specs.{Calls.verdictOf, Ranges.WithinLimits, declared.{Settings.Settings, Event.Event}}
 use Rattle.machine.proofs.Limits.{limits-tested}
 
 -- what is lent is long enough

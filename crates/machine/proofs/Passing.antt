@@ -1,29 +1,16 @@
 -- What a call that is accepted tells: the tests that it passed, and that its outcome is that of the rules.
-use mathlib.Core.Path.{_≡_, refl}
-use mathlib.Core.Logic.{inl, inr}
-use mathlib.Core.Bool.{Bool, true, false, not}
-use Prim.Native.Nat.{ℕ, _≤_, _<_}
+use mathlib.Core.{Path.{_≡_, refl}, Logic.{inl, inr}, Bool.{Bool, true, false, not}}
+use Prim.Native.Nat.{ℕ, _<_}
 use native.Mathlib.Omega.{arith}
-use lib.Dec.{T}
-use lib.ListN.{length, getD}
-use Rattle.machine.specs.Places.{blocks}
-use Rattle.machine.specs.Records.{recordInRange}
-use Rattle.machine.specs.Memory.{Memory, marksNeeded, recordOf, stateOf, markInRange}
-use Rattle.machine.specs.Refusals.{wrongMoment}
-use Rattle.machine.specs.Answers.{isAccepted}
+use lib.{Dec.T, ListN.length}
+use Rattle.machine.specs.{Places.blocks, Memory.{Memory, marksNeeded, stateOf}, Answers.isAccepted}
 use Rattle.machine.specs.Calls.{Outcome, refuseOr, verdictOf, call}
-use Rattle.machine.specs.declared.Settings.{Settings}
-use Rattle.machine.specs.declared.Kind.the-variants.{Release}
-use Rattle.machine.specs.declared.Event.{Event}
-use Rattle.machine.specs.declared.Row.{Row}
-use Rattle.machine.specs.declared.Row.the-variants.{Records, Xs, Marks}
+use Rattle.machine.specs.declared.{Settings.Settings, Event.Event, Row.{Row, the-variants.{Records, Xs, Marks}}}
 use Rattle.machine.specs.declared.Verdict.{Verdict}
-use Rattle.machine.specs.Ranges.{WithinLimits, SomeOutOfRange}
-use Rattle.machine.specs.Refusing.{NoneHolds, SomeRowShort, callLines}
+use Rattle.machine.specs.{Ranges.{WithinLimits, SomeOutOfRange}, Refusing.{NoneHolds, SomeRowShort, callLines}}
 use Rattle.machine.specs.OneAccess.{AcceptedIn}
 use Rattle.machine.proofs.Lines.{neededOf, inRangeAt, needs-line, bad-line, release-line, moment-line, out-line}
-use Rattle.machine.proofs.Refusing.{accepted-zero, ruled, within, call-refused}
-use Rattle.machine.proofs.Passed.{Fit, Passed}
+use Rattle.machine.proofs.{Refusing.{accepted-zero, ruled, within, call-refused}, Passed.{Fit, Passed}}
 use Rattle.counting.proofs.Tested.{misses}
 
 not-not : (b : Bool) → (T (not b) → ⊥) → T b
@@ -31,7 +18,8 @@ not-not true no-fail = tt
 not-not false no-fail = no-fail tt
 
 -- no row is short, and no needed value out of range
-pub fits : (s : Settings) → WithinLimits s → (m : Memory) → (SomeRowShort s m → ⊥) → ((row : Row) → SomeOutOfRange s m row → ⊥) → Fit s m
+pub fits : (s : Settings) → WithinLimits s → (m : Memory) → (SomeRowShort s m → ⊥)
+    → ((row : Row) → SomeOutOfRange s m row → ⊥) → Fit s m
 fits s l m long none =
     let records : length (m .records) < s .n → ⊥ = λ h. long (inl h) in
     let xs : length (m .xs) < blocks s → ⊥ = λ h. long (inr (inl (needs-line s l Xs _ .0 h))) in
@@ -43,7 +31,8 @@ fits s l m long none =
   where
     in-range-at : (row : Row) (index : ℕ) → index < neededOf s row → T (inRangeAt s l m row index)
     in-range-at row index low =
-        not-not (inRangeAt s l m row index) (λ t. none row (index, (needs-line s l row index .0 low, bad-line s l m row index .says t)))
+        not-not (inRangeAt s l m row index)
+        (λ t. none row (index, (needs-line s l row index .0 low, bad-line s l m row index .says t)))
 
 -- an accepted call meets no line of the table
 pub meets-none : (s : Settings) (event : Event) (m : Memory) → AcceptedIn s event m → NoneHolds (callLines s event m)
@@ -68,6 +57,7 @@ passed s event m t =
 pub by-the-rules : (s : Settings) (event : Event) (m : Memory) → AcceptedIn s event m → call s event m ≡ ruled s event m
 by-the-rules s event m = go (verdictOf s event m) (ruled s event m)
   where
-    go : (verdict : Verdict) (outcome : Outcome) → T (isAccepted (refuseOr verdict m outcome .answer)) → refuseOr verdict m outcome ≡ outcome
+    go : (verdict : Verdict) (outcome : Outcome) → T (isAccepted (refuseOr verdict m outcome .answer))
+        → refuseOr verdict m outcome ≡ outcome
     go Verdict.Accepted outcome t = refl
     go (Verdict.Refused why) outcome t = absurd t

@@ -2,16 +2,13 @@
 use mathlib.Core.Path.{_≡_}
 use Prim.Native.Nat.{ℕ, _+_, _≤_, _<_}
 use lib.Dec.{T, leb, leb→le, ltb→lt}
-use Rattle.machine.specs.Settings.{width}
-use Rattle.machine.specs.Records.{pointInRange, stateInRange}
-use Rattle.machine.specs.declared.Settings.{Settings}
-use Rattle.machine.specs.declared.Point.{Point}
-use Rattle.machine.specs.declared.Point.the-variants.{Scan}
-use Rattle.machine.specs.declared.State.{State}
-use Rattle.machine.specs.declared.State.the-variants.{Seeking}
+use Rattle.machine.specs.{Settings.width, Records.{pointInRange, stateInRange}}
+use Rattle.machine.specs.declared.{Settings.Settings, Point.{Point, the-variants.Scan}}
+use Rattle.machine.specs.declared.State.{State, the-variants.Seeking}
 use Rattle.counting.proofs.Bools.{and-l, and-r}
 
-module _ (s : Settings) (state : State) (r c : ℕ) (point : Point) (good : T (stateInRange s state)) (is : state ≡ Seeking r c point) where
+module _ (s : Settings) (state : State) (r c : ℕ) (point : Point) (good : T (stateInRange s state))
+    (is : state ≡ Seeking r c point) where
   -- a task that seeks does so on a block
   pub seeks-on-block : r + c + 2 ≤ s .k
   seeks-on-block =

@@ -1,33 +1,24 @@
--- Each number of refusal is answered exactly when its line is the first that holds, 3 tells the first bad value, and a refusal changes nothing.
-use mathlib.Core.Path.{_≡_, refl, sym, ap, _∙_}
-use mathlib.Core.Logic.{_⊎_, inl, inr, _↔_}
-use mathlib.Core.Bool.{Bool, true, false, cond}
-use mathlib.Core.List.{List, [], _∷_}
+-- Each number of refusal is answered exactly when its line is the first that holds, 3 tells the first bad value, and a
+-- refusal changes nothing.
+use mathlib.Core.{Path.{_≡_, refl}, Logic.{inl, inr, _↔_}, Bool.false, List.{List, []}}
 use Prim.Native.Nat.{ℕ, _≤_}
 use native.Mathlib.Omega.{arith}
-use lib.Dec.{T}
-use lib.ListN.{length}
-use Rattle.machine.specs.Memory.{Memory, stateOf, viewOf, outOf}
-use Rattle.machine.specs.Refusals.{Case, first, lentCases, rangeCases, taskCases, outsideLimits, rowShort, setupVerdict}
-use Rattle.machine.specs.Answers.{Said, said, refusalSaid, numberOf, isAccepted}
-use Rattle.machine.specs.Calls.{Outcome, answerOf, nextState, accept, refuseOr, verdictOf, call, cleared, setup}
-use Rattle.machine.specs.Ranges.{WithinLimits, SomeOutOfRange}
-use Rattle.machine.specs.Refusing.{Line, FirstHolds, RefusedExactly, SomeRowShort, taskLines, lentLines, rangeLines, setupLines, callLines, TellsFirstBad, in-records, in-xs, in-marks, callSays, setupSays, CallRefused, RefusalExact, RefusedChangesNothing}
-use Rattle.machine.specs.declared.Settings.{Settings}
-use Rattle.machine.specs.declared.State.{State}
-use Rattle.machine.specs.declared.State.the-variants.{Idle, Seeking, Holding}
-use Rattle.machine.specs.declared.Kind.{Kind}
-use Rattle.machine.specs.declared.Kind.the-variants.{Ask, Turn, Release}
-use Rattle.machine.specs.declared.Event.{Event}
-use Rattle.machine.specs.declared.Row.the-variants.{Records, Xs, Marks}
-use Rattle.machine.specs.declared.Refusal.{Refusal}
-use Rattle.machine.specs.declared.View.{View}
-use Rattle.machine.specs.declared.Verdict.{Verdict}
-use Rattle.machine.specs.declared.Answer.{Answer}
-use Rattle.machine.specs.declared.Answer.the-variants.{Done, Seeks, Holds, Freed, Refused}
+use lib.{Dec.T, ListN.length}
+use Rattle.machine.specs.Memory.{Memory, stateOf, viewOf}
+use Rattle.machine.specs.Refusals.{Case, first, lentCases, rangeCases, taskCases, outsideLimits, rowShort}
+use Rattle.machine.specs.Refusals.{setupVerdict}
+use Rattle.machine.specs.Answers.{said, isAccepted}
+use Rattle.machine.specs.Calls.{Outcome, answerOf, nextState, accept, refuseOr, verdictOf, cleared}
+use Rattle.machine.specs.Ranges.{WithinLimits}
+use Rattle.machine.specs.Refusing.{Line, FirstHolds, RefusedExactly, taskLines, lentLines, rangeLines, setupLines}
+use Rattle.machine.specs.Refusing.{callLines, TellsFirstBad, in-records, in-xs, in-marks, callSays, setupSays}
+use Rattle.machine.specs.Refusing.{CallRefused, RefusalExact, RefusedChangesNothing}
+use Rattle.machine.specs.declared.{Settings.Settings, State.{State, the-variants.{Idle, Seeking, Holding}}}
+use Rattle.machine.specs.declared.{Kind.{Kind, the-variants.{Ask, Turn, Release}}, Event.Event}
+use Rattle.machine.specs.declared.{Row.the-variants.{Records, Xs, Marks}, View.View, Verdict.Verdict}
+use Rattle.machine.specs.declared.Answer.{Answer, the-variants.{Done, Seeks, Holds, Freed, Refused}}
 use Rattle.counting.proofs.Tested.{most, fails, passes, misses, cannot-fail}
-use Rattle.machine.proofs.Limits.{limits-tested}
-use Rattle.machine.proofs.Lines.{short-line, release-line, moment-line, out-line}
+use Rattle.machine.proofs.{Limits.limits-tested, Lines.{short-line, release-line, moment-line, out-line}}
 use Rattle.machine.proofs.BadValue.{found-line, first-found}
 use Rattle.machine.proofs.Deciding.{refusal-says, Are, refused-exactly, refusal-keeps}
 
@@ -62,7 +53,8 @@ started s m = record { answer = Done; memory = cleared s m }
 
 pub ruled-accepted : (s : Settings) (event : Event) (m : Memory) → T (isAccepted (ruled s event m .answer))
 ruled-accepted s event m =
-    rules-accept s (event .kind) (stateOf m (event .task .0)) (nextState s (event .kind) (event .task .0) (stateOf m (event .task .0)) m)
+    rules-accept s (event .kind) (stateOf m (event .task .0))
+    (nextState s (event .kind) (event .task .0) (stateOf m (event .task .0)) m)
 
 -- ---- the cases of the definitions are the lines of the table
 
@@ -71,7 +63,8 @@ pub within : (s : Settings) → ((WithinLimits s → ⊥) → ⊥) → WithinLim
 within s = cannot-fail (limits-tested s)
 
 -- 1 and 2, whichever task looks; what follows is tested within the limits
-lent-are : (s : Settings) (p : ℕ) (m : Memory) (cases : List Case) (lines : List Line) → (WithinLimits s → Are cases lines)
+lent-are : (s : Settings) (p : ℕ) (m : Memory) (cases : List Case) (lines : List Line)
+    → (WithinLimits s → Are cases lines)
     → Are (lentCases s (viewOf s (m .records) p) (m .xs) (m .marks) cases) (lentLines s m lines)
 lent-are s p m cases lines rest = (
   record { numbered = refl; tested = fails (limits-tested s) },
@@ -113,11 +106,13 @@ module _ (s : Settings) (event : Event) (m : Memory) where
   heldCases = rangeCases s seen (m .xs) (m .marks) ownCases
 
   call-are : Are (lentCases s seen (m .xs) (m .marks) heldCases) (callLines s event m)
-  call-are = lent-are s (event .task .0) m heldCases (rangeLines s m (taskLines s event m)) (λ l. range-are l ownCases (taskLines s event m) task-are)
+  call-are = lent-are s (event .task .0) m heldCases (rangeLines s m (taskLines s event m))
+      (λ l. range-are l ownCases (taskLines s event m) task-are)
 
   call-exactly : RefusedExactly (callSays s event m) (callLines s event m)
   call-exactly =
-      refused-exactly (λ v. said (refuseOr v m (ruled s event m) .answer)) (accepted-zero (ruled s event m .answer) .0 (ruled-accepted s event m)) (λ why. refl)
+      refused-exactly (λ v. said (refuseOr v m (ruled s event m) .answer))
+      (accepted-zero (ruled s event m .answer) .0 (ruled-accepted s event m)) (λ why. refl)
       (lentCases s seen (m .xs) (m .marks) heldCases) (callLines s event m) call-are
 
   -- ---- 3 tells the first bad value
@@ -138,17 +133,24 @@ module _ (s : Settings) (event : Event) (m : Memory) where
 
       go : FirstHolds (rangeLines s m (taskLines s event m)) 3
           → TellsFirstBad s m (said (refuseOr (first heldCases) m (ruled s event m) .answer) .values)
-      go (inl (bad, e)) = rw (passes (found-line s l m Records) bad) (in-records (first-found s l m Records (found-line s l m Records .shows bad)))
+      go (inl (bad, e)) = rw (passes (found-line s l m Records) bad)
+          (in-records (first-found s l m Records (found-line s l m Records .shows bad)))
       go (inr (records, inl (bad, e))) =
           rw (misses (found-line s l m Records) records, passes (found-line s l m Xs) bad)
           (in-xs records (first-found s l m Xs (found-line s l m Xs .shows bad)))
       go (inr (records, inr (xs, inl (bad, e)))) =
-          rw (misses (found-line s l m Records) records, misses (found-line s l m Xs) xs, passes (found-line s l m Marks) bad)
+          rw (
+            misses (found-line s l m Records) records,
+            misses (found-line s l m Xs) xs,
+            passes
+                (found-line s l m Marks) bad,
+          )
           (in-marks records xs (first-found s l m Marks (found-line s l m Marks .shows bad)))
       go (inr (records, inr (xs, inr (marks, inl (four, e))))) = absurd (omega arith)
       go (inr (records, inr (xs, inr (marks, inr (known, inl (five, e)))))) = absurd (omega arith)
       go (inr (records, inr (xs, inr (marks, inr (known, inr (lived, inl (six, e))))))) = absurd (omega arith)
-      go (inr (records, inr (xs, inr (marks, inr (known, inr (lived, inr (moment, inl (seven, e)))))))) = absurd (omega arith)
+      go (inr (records, inr (xs, inr (marks, inr (known, inr (lived, inr (moment, inl (seven, e)))))))) =
+          absurd (omega arith)
       go (inr (records, inr (xs, inr (marks, inr (known, inr (lived, inr (moment, inr (room, none)))))))) = absurd none
 
   pub call-refused : CallRefused s event m
@@ -165,16 +167,24 @@ setup-exactly s m =
     (lentCases s (viewOf s (m .records) 0) (m .xs) (m .marks) []) (setupLines s m) (lent-are s 0 m [] [] (λ l. tt))
 
 pub refusal-exact : RefusalExact
-refusal-exact = record { calls = call-refused; setups = setup-exactly; acceptance = accepted-zero; numbered = λ why. refl }
+refusal-exact = record {
+  calls = call-refused;
+  setups = setup-exactly;
+  acceptance = accepted-zero;
+  numbered = λ why. refl;
+}
 
 -- ---- a refusal changes nothing
 
-unchanged : (m : Memory) (outcome : Outcome) → said (outcome .answer) .number ≡ 0 → (v : Verdict) → 1 ≤ said (refuseOr v m outcome .answer) .number
+unchanged : (m : Memory) (outcome : Outcome) → said (outcome .answer) .number ≡ 0 → (v : Verdict)
+    → 1 ≤ said (refuseOr v m outcome .answer) .number
     → refuseOr v m outcome .memory ≡ m
-unchanged m outcome zero = refusal-keeps (λ v. said (refuseOr v m outcome .answer)) zero (λ why. refl) (λ v. refuseOr v m outcome .memory) m (λ why. refl)
+unchanged m outcome zero = refusal-keeps (λ v. said (refuseOr v m outcome .answer)) zero (λ why. refl)
+    (λ v. refuseOr v m outcome .memory) m (λ why. refl)
 
 pub refused-changes-nothing : RefusedChangesNothing
 refused-changes-nothing = record {
-  calls = λ s event m. unchanged m (ruled s event m) (accepted-zero (ruled s event m .answer) .0 (ruled-accepted s event m)) (verdictOf s event m);
+  calls = λ s event m. unchanged m (ruled s event m)
+      (accepted-zero (ruled s event m .answer) .0 (ruled-accepted s event m)) (verdictOf s event m);
   setups = λ s m. unchanged m (started s m) refl (setupVerdict s (viewOf s (m .records) 0) (m .xs) (m .marks));
 }

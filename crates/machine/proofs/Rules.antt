@@ -1,39 +1,30 @@
--- The definitions, which say both modes at once, follow 01's rules in each, and the lines of these rules leave no accepted call out.
-use mathlib.Core.Path.{_≡_, refl, sym, ap, subst, _∙_}
-use mathlib.Core.Bool.{false, true≢false}
-use mathlib.Core.Logic.{_⊎_, inl, inr}
+-- The definitions, which say both modes at once, follow 01's rules in each, and the lines of these rules leave no
+-- accepted call out.
+use mathlib.Core.{Path.{_≡_, refl, sym, ap, subst, _∙_}, Bool.{false, true≢false}, Logic.{_⊎_, inl, inr}}
 use Prim.Native.Nat.{ℕ, _+_, _*_, _≤_, _<_}
-use native.Mathlib.Decide.{ℕ-discrete}
-use native.Mathlib.Omega.{arith}
-use lib.Dec.{T, leb→le, ltb→lt, eqb→eq}
-use lib.ListN.{getD}
+use native.Mathlib.{Decide.ℕ-discrete, Omega.arith}
+use lib.{Dec.{T, leb→le, ltb→lt, eqb→eq}, ListN.getD}
 use borrow.Author.Tests.{le-leb, lt-leb, eqb-false}
-use Rattle.machine.specs.Settings.{width, own}
-use Rattle.machine.specs.Places.{blockNumber}
-use Rattle.machine.specs.Records.{pointInRange, stateInRange}
+use Rattle.machine.specs.{Settings.{width, own}, Places.blockNumber, Records.{pointInRange, stateInRange}}
 use Rattle.machine.specs.Memory.{Memory, markIndex, stateOf, withMark}
 use Rattle.machine.specs.Turn.{pointAccess, value, store, arrive, move, leave, pointTurned}
 use Rattle.machine.specs.Calls.{Outcome, accept, call, eventOf, ask, turn, release}
-use Rattle.machine.specs.declared.Settings.{Settings}
-use Rattle.machine.specs.declared.Direction.{Direction}
-use Rattle.machine.specs.declared.Direction.the-variants.{Right, Down}
-use Rattle.machine.specs.declared.Point.{Point}
-use Rattle.machine.specs.declared.Point.the-variants.{WriteX, Scan, WriteMark, ReadX, Clear}
-use Rattle.machine.specs.declared.State.{State}
-use Rattle.machine.specs.declared.State.the-variants.{Idle, Seeking, Holding}
-use Rattle.machine.specs.declared.Kind.{Kind}
-use Rattle.machine.specs.declared.Kind.the-variants.{Ask, Turn, Release}
-use Rattle.machine.specs.Refusals.{wrongMoment}
-use Rattle.machine.specs.OneAccess.{AcceptedIn}
-use Rattle.machine.specs.Rules.{standsAt, freesAt, SeeksAt, xOf, markOf, longMark, oneMark, Arrives, edge, block, Moves, Says, asks, write-x, long-scan-marked, long-scan-next, long-scan-last, once-scan-marked, once-scan-clear, long-write-mark, once-write-mark, read-x-own, long-read-x-other, once-read-x-other, clear, release-block, release-edge, EachFollowsTheRules, EachSpokenOf}
-use Rattle.machine.proofs.Limits.{mode-most}
+use Rattle.machine.specs.declared.{Settings.Settings, Direction.{Direction, the-variants.{Right, Down}}}
+use Rattle.machine.specs.declared.Point.{Point, the-variants.{WriteX, Scan, WriteMark, ReadX, Clear}}
+use Rattle.machine.specs.declared.State.{State, the-variants.{Idle, Seeking, Holding}}
+use Rattle.machine.specs.declared.Kind.{Kind, the-variants.{Ask, Turn, Release}}
+use Rattle.machine.specs.{Refusals.wrongMoment, OneAccess.AcceptedIn}
+use Rattle.machine.specs.Rules.{standsAt, freesAt, SeeksAt, xOf, markOf, longMark, oneMark, Arrives, edge, block}
+use Rattle.machine.specs.Rules.{Moves, Says, asks, write-x, long-scan-marked, long-scan-next, long-scan-last}
+use Rattle.machine.specs.Rules.{once-scan-marked, once-scan-clear, long-write-mark, once-write-mark, read-x-own}
+use Rattle.machine.specs.Rules.{long-read-x-other, once-read-x-other, clear, release-block, release-edge}
+use Rattle.machine.specs.Rules.{EachFollowsTheRules, EachSpokenOf}
 use Rattle.machine.specs.Ranges.{WithinLimits}
-use Rattle.machine.proofs.Turning as turning
-use Rattle.machine.proofs.Arriving.{arrive-edge, arrive-block, leave-at-once, leave-clearing}
+use Rattle.machine.proofs.{Limits.mode-most, Arriving.{arrive-edge, arrive-block, leave-at-once, leave-clearing}}
 use Rattle.machine.proofs.Ranges.{seeks-on-block, seeks-at-point}
 use Rattle.machine.proofs.Seen.{width-one-time, width-long-lived, own-one-time, own-long-lived, mark-below}
-use Rattle.machine.proofs.Passing.{passed, by-the-rules}
-use Rattle.machine.proofs.Passed.{Passed}
+use Rattle.machine.proofs.{Passing.{passed, by-the-rules}, Passed.Passed}
+use Rattle.machine.proofs.Turning as turning
 
 -- ---- in either mode
 
@@ -41,23 +32,28 @@ module _ (s : Settings) (p : ℕ) where
   -- a line of an arrival says where the task comes to
   arrives-so : (r c : ℕ) (m : Memory) (to : Outcome) → Arrives s p r c m to → standsAt s p (arrive s r c) m ≡ to
   arrives-so r c m to (edge at) = ap (λ (state : State). standsAt s p state m) (sym (arrive-edge s r c at))
-  arrives-so r c m to (block on) = ap (λ (state : State). standsAt s p state m) (sym (arrive-block s r c (λ at. omega arith)))
+  arrives-so r c m to (block on) = ap (λ (state : State). standsAt s p state m)
+      (sym (arrive-block s r c (λ at. omega arith)))
 
-  moves-so : (r c : ℕ) (direction : Direction) (m : Memory) (to : Outcome) → Moves s p r c direction m to → standsAt s p (move s r c direction) m ≡ to
+  moves-so : (r c : ℕ) (direction : Direction) (m : Memory) (to : Outcome) → Moves s p r c direction m to
+      → standsAt s p (move s r c direction) m ≡ to
   moves-so r c Right m to moves = arrives-so r (c + 1) m to moves
   moves-so r c Down m to moves = arrives-so (r + 1) c m to moves
 
   -- a turn at a point: the register is written, and the value read makes the next state
   turned-at : (m : Memory) (r c : ℕ) (point : Point) → AcceptedIn s (turn p) m → SeeksAt s p m r c point
-      → call s (turn p) m ≡ standsAt s p (pointTurned s p r c point (value s (pointAccess s p r c point) m)) (store s (pointAccess s p r c point) m)
-  turned-at m r c point t at = by-the-rules s (turn p) m t ∙ ap (λ (state : State). accept s Turn p state m) (at .stands)
+      → call s (turn p) m ≡ standsAt s p (pointTurned s p r c point (value s (pointAccess s p r c point) m))
+      (store s (pointAccess s p r c point) m)
+  turned-at m r c point t at = by-the-rules s (turn p) m t
+      ∙ ap (λ (state : State). accept s Turn p state m) (at .stands)
 
   -- where the value read decides
   turned-to : (m : Memory) (r c : ℕ) (point : Point) (to : State) → AcceptedIn s (turn p) m → SeeksAt s p m r c point
       → to ≡ pointTurned s p r c point (value s (pointAccess s p r c point) m)
       → call s (turn p) m ≡ standsAt s p to (store s (pointAccess s p r c point) m)
   turned-to m r c point to t at e =
-      turned-at m r c point t at ∙ ap (λ (state : State). standsAt s p state (store s (pointAccess s p r c point) m)) (sym e)
+      turned-at m r c point t at ∙ ap (λ (state : State). standsAt s p state (store s (pointAccess s p r c point) m))
+      (sym e)
 
 -- ---- mode 1
 
@@ -79,7 +75,8 @@ module _ (s : Settings) (long : s .mode ≡ 1) (p : ℕ) (m : Memory) (r c : ℕ
   not-marked h e f = let z = mark-read h 0 e in omega arith
 
   -- a release of a task that holds (r, c)
-  released : AcceptedIn s (release p) m → stateOf m p ≡ Holding r c → call s (release p) m ≡ accept s Release p (Holding r c) m
+  released : AcceptedIn s (release p) m → stateOf m p ≡ Holding r c
+      → call s (release p) m ≡ accept s Release p (Holding r c) m
   released t held = by-the-rules s (release p) m t ∙ ap (λ (state : State). accept s Release p state m) held
 
 -- ---- mode 0
@@ -108,7 +105,8 @@ follows-the-rules s p m Turn t to (long-scan-marked {r} {c} {h} long at low e) =
     (leave-long s long p m r c Right ∙ turning.scan-marked s p r c h _ (mark-read s long p m r c h 1 e))
 follows-the-rules s p m Turn t to (long-scan-next {r} {c} {h} long at low e) =
     turned-to s p m r c (Scan h) (Seeking r c (Scan (h + 1))) t at
-    (turning.scan-on s p r c h _ (not-marked s long p m r c h e) (λ last. let w = width-long-lived s long in omega arith))
+    (turning.scan-on s p r c h _ (not-marked s long p m r c h e)
+    (λ last. let w = width-long-lived s long in omega arith))
 follows-the-rules s p m Turn t to (long-scan-last {r} {c} {h} long at last e) =
     turned-to s p m r c (Scan h) (Seeking r c WriteMark) t at
     (turning.scan-done s p r c h _ (not-marked s long p m r c h e) (last ∙ sym (width-long-lived s long)))
@@ -128,9 +126,11 @@ follows-the-rules s p m Turn t to (once-write-mark {r} {c} once at) =
 follows-the-rules s p m Turn t to (read-x-own {r} {c} at e) =
     turned-to s p m r c ReadX (Holding r c) t at (turning.reads-own s p r c (xOf s m r c) e)
 follows-the-rules s p m Turn t to (long-read-x-other {r} {c} long at other) =
-    turned-to s p m r c ReadX (Seeking r c (Clear Down)) t at (leave-long s long p m r c Down ∙ turning.reads-other s p r c _ other)
+    turned-to s p m r c ReadX (Seeking r c (Clear Down)) t at
+    (leave-long s long p m r c Down ∙ turning.reads-other s p r c _ other)
 follows-the-rules s p m Turn t to (once-read-x-other {r} {c} once at other moves) =
-    turned-to s p m r c ReadX (move s r c Down) t at (leave-at-once s r c Down once ∙ turning.reads-other s p r c _ other)
+    turned-to s p m r c ReadX (move s r c Down) t at
+    (leave-at-once s r c Down once ∙ turning.reads-other s p r c _ other)
     ∙ moves-so s p r c Down m to moves
 follows-the-rules s p m Turn t to (clear {r} {c} {direction} long at moves) =
     turned-at s p m r c (Clear direction) t at
@@ -138,7 +138,8 @@ follows-the-rules s p m Turn t to (clear {r} {c} {direction} long at moves) =
     ∙ moves-so s p r c direction (withMark (markOf s r c p) 0 m) to moves
 follows-the-rules s p m Release t to (release-block {r} {c} long held on) =
     released s long p m r c t held
-    ∙ rw (le-leb (r + c + 2) (s .k) on) (ap (λ (i : ℕ). freesAt s p r c (withMark i 0 m)) (own-mark-long s long p m r c))
+    ∙ rw (le-leb (r + c + 2) (s .k) on) (ap (λ (i : ℕ). freesAt s p r c (withMark i 0 m))
+    (own-mark-long s long p m r c))
 follows-the-rules s p m Release t to (release-edge {r} {c} long held at) =
     released s long p m r c t held ∙ rw (lt-leb (r + c + 2) (s .k) (let l : s .k < r + c + 2 = omega arith in l))
 
@@ -157,8 +158,10 @@ module _ (s : Settings) (p : ℕ) (m : Memory) where
   arrival r c left within = go (ℕ-discrete (r + c + 1) (s .k))
     where
       go : Dec (r + c + 1 ≡ s .k) → Arrives s p r c left (standsAt s p (arrive s r c) left)
-      go (yes e) = subst (λ (state : State). Arrives s p r c left (standsAt s p state left)) (arrive-edge s r c e) (edge e)
-      go (no d) = subst (λ (state : State). Arrives s p r c left (standsAt s p state left)) (arrive-block s r c d) (block (omega arith))
+      go (yes e) = subst (λ (state : State). Arrives s p r c left (standsAt s p state left)) (arrive-edge s r c e)
+          (edge e)
+      go (no d) = subst (λ (state : State). Arrives s p r c left (standsAt s p state left)) (arrive-block s r c d)
+          (block (omega arith))
 
   -- and so does one that moves out of a block
   going : (r c : ℕ) (direction : Direction) (left : Memory) → r + c + 2 ≤ s .k
@@ -199,7 +202,8 @@ module _ (s : Settings) (p : ℕ) (m : Memory) where
           go : (oneMark s m r c ≡ 0) ⊎ (oneMark s m r c ≡ 1) → Spoken
           go (inl e) = spoken Turn t _ (once-scan-clear once at-first e)
           go (inr e) = spoken Turn t _ (once-scan-marked once at-first e (going r c Right m (at .on-block)))
-      scan-spoken h at low (inr long) = go (zero-or-one (longMark s m r c h) (rw (mark-long s long p m r c h) at mark)) (ℕ-discrete (h + 1) (s .n))
+      scan-spoken h at low (inr long) = go
+          (zero-or-one (longMark s m r c h) (rw (mark-long s long p m r c h) at mark)) (ℕ-discrete (h + 1) (s .n))
         where
           below : h < s .n
           below = rw (width-long-lived s long) at low
@@ -214,7 +218,8 @@ module _ (s : Settings) (p : ℕ) (m : Memory) where
 
       read-spoken : SeeksAt s p m r c ReadX → Dec (xOf s m r c ≡ p + 1) → (s .mode ≡ 0) ⊎ (s .mode ≡ 1) → Spoken
       read-spoken at (yes e) modes = spoken Turn t _ (read-x-own at e)
-      read-spoken at (no other) (inl once) = spoken Turn t _ (once-read-x-other once at other (going r c Down m (at .on-block)))
+      read-spoken at (no other) (inl once) =
+          spoken Turn t _ (once-read-x-other once at other (going r c Down m (at .on-block)))
       read-spoken at (no other) (inr long) = spoken Turn t _ (long-read-x-other long at other)
 
       write-mark-spoken : SeeksAt s p m r c WriteMark → (s .mode ≡ 0) ⊎ (s .mode ≡ 1) → Spoken
@@ -227,7 +232,8 @@ module _ (s : Settings) (p : ℕ) (m : Memory) where
       turn-spoken WriteMark at good = write-mark-spoken at (fair .modes)
       turn-spoken ReadX at good = read-spoken at (ℕ-discrete (xOf s m r c) (p + 1)) (fair .modes)
       turn-spoken (Clear direction) at good =
-          spoken Turn t _ (clear (eqb→eq (s .mode) 1 good) at (going r c direction (withMark (markOf s r c p) 0 m) (at .on-block)))
+          spoken Turn t _ (clear (eqb→eq (s .mode) 1 good) at
+          (going r c direction (withMark (markOf s r c p) 0 m) (at .on-block)))
 
   -- ---- a release
 
@@ -242,19 +248,24 @@ module _ (s : Settings) (p : ℕ) (m : Memory) where
   -- ---- by the record of the task
 
   by-record : (kind : Kind) → AcceptedIn s (eventOf kind p) m → Passed s (eventOf kind p) m
-      → (state : State) → stateOf m p ≡ state → T (stateInRange s state) → wrongMoment kind state ≡ false → Says s p m kind (call s (eventOf kind p) m)
+      → (state : State) → stateOf m p ≡ state → T (stateInRange s state) → wrongMoment kind state ≡ false
+      → Says s p m kind (call s (eventOf kind p) m)
   by-record Ask t ok Idle is good moment = spoken Ask t _ (asks is (arrival 0 0 m (ok .limits .k-least)))
   by-record Ask t ok (Seeking r c point) is good moment = absurd (true≢false moment)
   by-record Ask t ok (Holding r c) is good moment = absurd (true≢false moment)
   by-record Turn t ok Idle is good moment = absurd (true≢false moment)
   by-record Turn t ok (Seeking r c point) is good moment =
-      turn-spoken t r c point (record { stands = is; on-block = seeks-on-block s (Seeking r c point) r c point good refl })
+      turn-spoken t r c point (record {
+        stands = is;
+        on-block = seeks-on-block s (Seeking r c point) r c point good refl;
+      })
       (seeks-at-point s (Seeking r c point) r c point good refl)
   by-record Turn t ok (Holding r c) is good moment = absurd (true≢false moment)
   by-record Release t ok Idle is good moment = absurd (true≢false moment)
   by-record Release t ok (Seeking r c point) is good moment = absurd (true≢false moment)
   by-record Release t ok (Holding r c) is good moment =
-      release-spoken t r c (omega (arith, eqb-false (s .mode) 0 (ok .may .lived), mode-most s (ok .limits))) is (leb→le (r + c + 1) (s .k) good)
+      release-spoken t r c (omega (arith, eqb-false (s .mode) 0 (ok .may .lived), mode-most s (ok .limits))) is
+      (leb→le (r + c + 1) (s .k) good)
 
 pub each-spoken-of : EachSpokenOf
 each-spoken-of s p m kind t =

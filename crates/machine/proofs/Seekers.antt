@@ -1,21 +1,13 @@
--- Demand 3, "No turn of a seeking task is refused": J0 has tests 1 to 3 pass, and 4 to 7 ask nothing more of the turn of a task that seeks.
-use mathlib.Core.Path.{_≡_, refl}
-use mathlib.Core.Bool.{false, not}
-use mathlib.Core.List.{List}
+-- Demand 3, "No turn of a seeking task is refused": J0 has tests 1 to 3 pass, and 4 to 7 ask nothing more of the turn
+-- of a task that seeks.
+use mathlib.Core.{Path.{_≡_, refl}, Bool.{false, not}, List.List}
 use Prim.Native.Nat.{ℕ, _<_}
 use lib.Dec.{T}
-use Rattle.machine.specs.Records.{isSeeking}
-use Rattle.machine.specs.Memory.{Memory, stateOf}
-use Rattle.machine.specs.Answers.{isAccepted}
-use Rattle.machine.specs.Calls.{call, turn}
+use Rattle.machine.specs.{Records.isSeeking, Memory.{Memory, stateOf}, Answers.isAccepted, Calls.{call, turn}}
 use Rattle.machine.specs.Demands.{SetUp, memoryAfter, Seeks}
-use Rattle.machine.specs.declared.Settings.{Settings}
-use Rattle.machine.specs.declared.State.{State}
-use Rattle.machine.specs.declared.State.the-variants.{Idle, Seeking, Holding}
+use Rattle.machine.specs.declared.{Settings.Settings, State.{State, the-variants.{Idle, Seeking, Holding}}}
 use Rattle.machine.specs.declared.Event.{Event}
-use Rattle.machine.proofs.Fresh.{setup-within}
-use Rattle.machine.proofs.Outcomes.{accepted-answer, may-accepted}
-use Rattle.machine.proofs.Histories.{always-fine}
+use Rattle.machine.proofs.{Fresh.setup-within, Outcomes.{accepted-answer, may-accepted}, Histories.always-fine}
 use Rattle.machine.proofs.Passed.{May}
 
 pub seeker-may : (s : Settings) (m : Memory) (p : ℕ) → p < s .n → T (isSeeking (stateOf m p)) → May s (turn p) m
@@ -26,9 +18,11 @@ seeker-may s m p l t = record { known = l; lived = refl; moment = seeking (state
     seeking (Seeking r c point) t = refl
     seeking (Holding r c) t = absurd t
 
-pub seeker-accepted : (s : Settings) (lent : Memory) (events : List Event) → SetUp s lent → (p : ℕ) → p < s .n → Seeks (memoryAfter s lent events) p
+pub seeker-accepted : (s : Settings) (lent : Memory) (events : List Event) → SetUp s lent → (p : ℕ) → p < s .n
+    → Seeks (memoryAfter s lent events) p
     → T (isAccepted (call s (turn p) (memoryAfter s lent events) .answer))
 seeker-accepted s lent events ok p l t =
     let m = memoryAfter s lent events in
-    let taken = may-accepted s (setup-within s lent ok) (turn p) m (always-fine s lent ok events .good .sound) (seeker-may s m p l t) in
+    let taken = may-accepted s (setup-within s lent ok) (turn p) m (always-fine s lent ok events .good .sound)
+    (seeker-may s m p l t) in
     rw (taken, accepted-answer s (turn p) m) tt

@@ -1,41 +1,29 @@
--- Demand 3, "From an accepted ask, a task holds a name within (N+4)(k-1) of its own accepted turns if long-lived, 4(k-1) if one-time, though every
--- other task stops for good".
-use mathlib.Core.Path.{_≡_, refl, sym, ap, subst, _∙_}
-use mathlib.Core.Logic.{_⊎_, inl, inr, ⊎-elim}
-use mathlib.Core.Bool.{Bool, true, false, cond, _&&_}
-use mathlib.Core.List.{List, [], _∷_, _++_, append-assoc}
+-- Demand 3, "From an accepted ask, a task holds a name within (N+4)(k-1) of its own accepted turns if long-lived,
+-- 4(k-1) if one-time, though every other task stops for good".
+use mathlib.Core.{Path.{_≡_, refl, sym, ap, subst, _∙_}, Logic.{_⊎_, inl, inr, ⊎-elim}}
+use mathlib.Core.{Bool.{Bool, true, false, cond, _&&_}, List.{List, [], _∷_, _++_, append-assoc}}
 use Prim.Native.Nat.{ℕ, zero, suc, _+_, _-_, _*_, _≤_, _<_, zero-le}
-use native.Mathlib.Nat.{le-trans, mul-le-mul-right}
-use native.Mathlib.Omega.{arith}
+use native.Mathlib.{Nat.{le-trans, mul-le-mul-right}, Omega.arith}
 use lib.Dec.{T, eqb}
 use borrow.Author.Tests.{eqb-true, eqb-false, eq-eqb, ne-eqb, not-false}
-use Rattle.machine.specs.Settings.{width}
-use Rattle.machine.specs.Records.{isSeeking, isHolding}
-use Rattle.machine.specs.Memory.{Memory, stateOf}
-use Rattle.machine.specs.Answers.{isAccepted}
-use Rattle.machine.specs.Turn.{arrive}
-use Rattle.machine.specs.Refusals.{wrongMoment}
+use Rattle.machine.specs.{Settings.width, Records.{isSeeking, isHolding}, Memory.{Memory, stateOf}}
+use Rattle.machine.specs.{Answers.isAccepted, Turn.arrive, Refusals.wrongMoment}
 use Rattle.machine.specs.Calls.{Outcome, accept, call, setup, turn}
 use Rattle.machine.specs.History.{run, Answered, history, counted, turnsOf, turns}
 use Rattle.machine.specs.Demands.{SetUp, memoryAfter, historyOf, used, Seeks, HoldsSome, bound}
-use Rattle.machine.specs.declared.Settings.{Settings}
-use Rattle.machine.specs.declared.Point.the-variants.{WriteX, Scan, WriteMark, ReadX, Clear}
-use Rattle.machine.specs.declared.State.{State}
-use Rattle.machine.specs.declared.State.the-variants.{Idle, Seeking, Holding}
-use Rattle.machine.specs.declared.Kind.{Kind}
-use Rattle.machine.specs.declared.Kind.the-variants.{Ask, Turn, Release}
-use Rattle.machine.specs.declared.Event.{Event}
+use Rattle.machine.specs.declared.{Settings.Settings, Point.the-variants.{WriteX, Scan, WriteMark, ReadX, Clear}}
+use Rattle.machine.specs.declared.State.{State, the-variants.{Idle, Seeking, Holding}}
+use Rattle.machine.specs.declared.{Kind.{Kind, the-variants.{Ask, Turn, Release}}, Event.Event}
 use Rattle.machine.specs.Ranges.{WithinLimits}
-use Rattle.machine.proofs.Fresh.{setup-within, fresh-idle}
-use Rattle.grid.proofs.Stands.{Rules, Stand, idle, at, InPlace}
-use Rattle.machine.proofs.Seen.{rulesOf, standOf}
+use Rattle.machine.proofs.{Fresh.{setup-within, fresh-idle}, Seen.{rulesOf, standOf}}
 use Rattle.machine.proofs.Steps.{arrives, in-place, caller-after, others-after, caller-moves}
 use Rattle.machine.proofs.Outcomes.{Called, taken, refused, accepted-answer, called, may-accepted}
-use Rattle.machine.proofs.Histories.{rules, all-in-place, Fine, fine-kept, fresh-fine, always-fine, run-append, history-append}
-use Rattle.machine.proofs.Seekers.{seeker-may}
-use Rattle.grid.proofs.Spent.{cost, Within, OutWithin, SeeksAt, arrives-within, turn-within, seeking-within, holding-within}
-use Rattle.machine.proofs.Passed.{Fit}
-use Rattle.machine.proofs.Refusing.{ruled}
+use Rattle.machine.proofs.Histories.{rules, all-in-place, Fine, fine-kept, fresh-fine, always-fine, run-append}
+use Rattle.machine.proofs.Histories.{history-append}
+use Rattle.machine.proofs.{Seekers.seeker-may, Passed.Fit, Refusing.ruled}
+use Rattle.grid.proofs.Stands.{Rules, Stand, idle, at, InPlace}
+use Rattle.grid.proofs.Spent.{cost, Within, OutWithin, SeeksAt, arrives-within, turn-within, seeking-within}
+use Rattle.grid.proofs.Spent.{holding-within}
 
 -- ---- records and stands
 
@@ -48,7 +36,8 @@ seeks-at W (Seeking r c ReadX) t = tt
 seeks-at W (Seeking r c (Clear d)) t = tt
 seeks-at W (Holding r c) t = absurd t
 
-out-seeks-or-holds : (R : Rules) (W t : ℕ) (state : State) → OutWithin R (standOf W state) t → T (isSeeking state) ⊎ T (isHolding state)
+out-seeks-or-holds : (R : Rules) (W t : ℕ) (state : State) → OutWithin R (standOf W state) t
+    → T (isSeeking state) ⊎ T (isHolding state)
 out-seeks-or-holds R W t Idle h = absurd h
 out-seeks-or-holds R W t (Seeking r c point) h = inl tt
 out-seeks-or-holds R W t (Holding r c) h = inr tt
@@ -92,7 +81,8 @@ module _ (s : Settings) (fair : WithinLimits s) (p : ℕ) (m : Memory) (sound : 
   own-call-within Release l e h = rw (caller-after s fair m sound p l Release (stateOf m p)) tt
 
   call-within : (event : Event) → Used m t
-      → Used (call s event m .memory) (cond (isAccepted (call s event m .answer) && eqb (event .task .0) p) (counted (event .kind) t) t)
+      → Used (call s event m .memory) (cond (isAccepted (call s event m .answer) && eqb (event .task .0) p)
+      (counted (event .kind) t) t)
   call-within event h = go (call s event m) (called s fair event m sound) (eqb (event .task .0) p) refl
     where
       go : (outcome : Outcome) → Called s event m outcome → (its : Bool) → eqb (event .task .0) p ≡ its
@@ -114,11 +104,13 @@ turns-within : (s : Settings) (fair : WithinLimits s) (p : ℕ) (events : List E
     → Within (rules s fair) (standOf (width s) (stateOf (run s events m) p)) (turnsOf p (history s events m) t)
 turns-within s fair p [] m t f h = h
 turns-within s fair p (event ∷ events) m t f h =
-    turns-within s fair p events (call s event m .memory) _ (fine-kept s fair event m f) (call-within s fair p m (f .good .sound) t event h)
+    turns-within s fair p events (call s event m .memory) _ (fine-kept s fair event m f)
+    (call-within s fair p m (f .good .sound) t event h)
 
 -- ---- every history
 
-pub turns-append : (p : ℕ) (done more : List Answered) (t : ℕ) → turnsOf p (done ++ more) t ≡ turnsOf p more (turnsOf p done t)
+pub turns-append : (p : ℕ) (done more : List Answered) (t : ℕ)
+    → turnsOf p (done ++ more) t ≡ turnsOf p more (turnsOf p done t)
 turns-append p [] more t = refl
 turns-append p (one ∷ done) more t = turns-append p done more _
 
@@ -129,19 +121,23 @@ module _ (s : Settings) (lent : Memory) (ok : SetUp s lent) (p : ℕ) (l : p < s
   sound : (events : List Event) → Fit s (memoryAfter s lent events)
   sound events = always-fine s lent ok events .good .sound
 
-  pub always-within : (events : List Event) → Within (rules s fair) (standOf (width s) (stateOf (memoryAfter s lent events) p)) (used s lent events p)
+  pub always-within : (events : List Event)
+      → Within (rules s fair) (standOf (width s) (stateOf (memoryAfter s lent events) p)) (used s lent events p)
   always-within events =
       turns-within s fair p events (setup s lent .memory) 0 (fresh-fine s lent ok) (rw (fresh-idle s lent ok p l) tt)
 
   pub seeking-used : (events : List Event) → Seeks (memoryAfter s lent events) p → used s lent events p < bound s
   seeking-used events seeks =
-      le-trans (seeking-within (rules s fair) (standOf (width s) (stateOf (memoryAfter s lent events) p)) (used s lent events p)
-      (seeks-at (width s) (stateOf (memoryAfter s lent events) p) seeks) (all-in-place s fair (memoryAfter s lent events) (sound events) p l)
+      le-trans (seeking-within (rules s fair) (standOf (width s) (stateOf (memoryAfter s lent events) p))
+      (used s lent events p)
+      (seeks-at (width s) (stateOf (memoryAfter s lent events) p) seeks)
+      (all-in-place s fair (memoryAfter s lent events) (sound events) p l)
       (always-within events)) (bound-enough s fair)
 
   pub holding-used : (events : List Event) → HoldsSome (memoryAfter s lent events) p → used s lent events p ≤ bound s
   holding-used events holds =
-      le-trans (go (stateOf (memoryAfter s lent events) p) holds (all-in-place s fair (memoryAfter s lent events) (sound events) p l)
+      le-trans (go (stateOf (memoryAfter s lent events) p) holds
+      (all-in-place s fair (memoryAfter s lent events) (sound events) p l)
       (always-within events))
       (bound-enough s fair)
     where
@@ -160,9 +156,11 @@ module _ (s : Settings) (lent : Memory) (ok : SetUp s lent) (p : ℕ) (l : p < s
   turn-taken : (events : List Event) → Seeks (memoryAfter s lent events) p
       → call s (turn p) (memoryAfter s lent events) ≡ ruled s (turn p) (memoryAfter s lent events)
   turn-taken events seeks =
-      may-accepted s fair (turn p) (memoryAfter s lent events) (sound events) (seeker-may s (memoryAfter s lent events) p l seeks)
+      may-accepted s fair (turn p) (memoryAfter s lent events) (sound events)
+      (seeker-may s (memoryAfter s lent events) p l seeks)
 
-  one-more-used : (events : List Event) → Seeks (memoryAfter s lent events) p → used s lent (andTurn events) p ≡ used s lent events p + 1
+  one-more-used : (events : List Event) → Seeks (memoryAfter s lent events) p
+      → used s lent (andTurn events) p ≡ used s lent events p + 1
   one-more-used events seeks =
       ap (λ (h : List Answered). turnsOf p h 0) (history-append s events (turn p ∷ []) (setup s lent .memory))
       ∙ turns-append p (historyOf s lent events) _ 0
@@ -171,23 +169,29 @@ module _ (s : Settings) (lent : Memory) (ok : SetUp s lent) (p : ℕ) (l : p < s
   seeks-or-holds : (events : List Event) → Seeks (memoryAfter s lent events) p
       → Seeks (memoryAfter s lent (andTurn events)) p ⊎ HoldsSome (memoryAfter s lent (andTurn events)) p
   seeks-or-holds events seeks =
-      rw (run-append s events (turn p ∷ []) (setup s lent .memory) ∙ ap (λ (outcome : Outcome). outcome .memory) (turn-taken events seeks))
+      rw (run-append s events (turn p ∷ []) (setup s lent .memory)
+      ∙ ap (λ (outcome : Outcome). outcome .memory) (turn-taken events seeks))
       (out-seeks-or-holds (rules s fair) (width s) (used s lent events p + 1)
       (stateOf (ruled s (turn p) (memoryAfter s lent events) .memory) p)
-      (own-turn-within s fair p (memoryAfter s lent events) (sound events) (used s lent events p) l seeks (always-within events)))
+      (own-turn-within s fair p (memoryAfter s lent events) (sound events) (used s lent events p) l seeks
+      (always-within events)))
 
   -- what is left of the bound is enough
-  pub served-alone : (left : ℕ) (events : List Event) → bound s ≤ used s lent events p + left → Seeks (memoryAfter s lent events) p
+  pub served-alone : (left : ℕ) (events : List Event) → bound s ≤ used s lent events p + left
+      → Seeks (memoryAfter s lent events) p
       → (more : ℕ) × (used s lent events p + more ≤ bound s) × HoldsSome (memoryAfter s lent (events ++ turns more p)) p
   served-alone zero events b seeks = absurd (let z = seeking-used events seeks in omega arith)
   served-alone (suc left) events b seeks =
       ⊎-elim (λ again. on (served-alone left (andTurn events) (omega (arith, one-more-used events seeks)) again))
       (λ holds. (1, (let z = seeking-used events seeks in omega arith), holds)) (seeks-or-holds events seeks)
     where
-      on : (more : ℕ) × (used s lent (andTurn events) p + more ≤ bound s) × HoldsSome (memoryAfter s lent (andTurn events ++ turns more p)) p
-          → (more : ℕ) × (used s lent events p + more ≤ bound s) × HoldsSome (memoryAfter s lent (events ++ turns more p)) p
+      on : (more : ℕ) × (used s lent (andTurn events) p + more ≤ bound s) × HoldsSome
+          (memoryAfter s lent (andTurn events ++ turns more p)) p
+          → (more : ℕ) × (used s lent events p + more ≤ bound s) × HoldsSome
+          (memoryAfter s lent (events ++ turns more p)) p
       on h = (
         suc (h .0),
         omega (arith, one-more-used events seeks, h .1),
-        subst (λ (all : List Event). HoldsSome (memoryAfter s lent all) p) (append-assoc events (turn p ∷ []) (turns (h .0) p)) (h .2),
+        subst (λ (all : List Event). HoldsSome (memoryAfter s lent all) p)
+            (append-assoc events (turn p ∷ []) (turns (h .0) p)) (h .2),
       )

@@ -1,26 +1,19 @@
 -- Setup is done exactly where the settings are permitted and the rows long enough, and clears what is needed.
 use mathlib.Core.Path.{_≡_, refl, ap, _∙_}
 use lib.Dec.{T}
-use Rattle.machine.specs.Places.{blocks}
-use Rattle.machine.specs.Records.{idle}
-use Rattle.machine.specs.Memory.{Memory, marksNeeded, viewOf}
-use Rattle.machine.specs.Refusals.{setupVerdict}
-use Rattle.machine.specs.Answers.{said, isAccepted}
-use Rattle.machine.specs.Calls.{refuseOr, setup}
-use Rattle.machine.specs.declared.Settings.{Settings}
-use Rattle.machine.specs.declared.Verdict.{Verdict}
-use Rattle.machine.specs.declared.Answer.{Answer}
-use Rattle.machine.proofs.Fresh.{setup-memory}
-use Rattle.machine.specs.Refusing.{NoneHolds, setupLines, setupSays}
-use Rattle.machine.specs.Surplus.{needed}
+use Rattle.machine.specs.{Places.blocks, Records.idle, Memory.{Memory, marksNeeded, viewOf}}
+use Rattle.machine.specs.{Refusals.setupVerdict, Answers.{said, isAccepted}, Calls.{refuseOr, setup}}
+use Rattle.machine.specs.declared.{Settings.Settings, Verdict.Verdict, Answer.Answer}
+use Rattle.machine.specs.{Refusing.{NoneHolds, setupLines, setupSays}, Surplus.needed}
 use Rattle.machine.specs.SettingUp.{clear, EachSetupClears}
-use Rattle.machine.proofs.Refusing.{accepted-zero, started, setup-exactly}
+use Rattle.machine.proofs.{Fresh.setup-memory, Refusing.{accepted-zero, started, setup-exactly}}
 use Rattle.machine.proofs.Surplus.{same-rows, fill-needed}
 
 module _ (s : Settings) (m : Memory) where
   -- what an accepted setup answers
   accepted-done : setupSays s m .number ≡ 0 → setup s m .answer ≡ Answer.Done
-  accepted-done e = go (setupVerdict s (viewOf s (m .records) 0) (m .xs) (m .marks)) (accepted-zero (setup s m .answer) .1 e)
+  accepted-done e = go (setupVerdict s (viewOf s (m .records) 0) (m .xs) (m .marks))
+      (accepted-zero (setup s m .answer) .1 e)
     where
       go : (verdict : Verdict) → T (isAccepted (refuseOr verdict m (started s m) .answer))
           → refuseOr verdict m (started s m) .answer ≡ Answer.Done
@@ -36,7 +29,8 @@ module _ (s : Settings) (m : Memory) where
   clears : NoneHolds (setupLines s m) → needed s (setup s m .memory) ≡ clear s
   clears none =
       ap (needed s) (setup-memory s m (lent-done none))
-      ∙ same-rows (fill-needed (s .n) idle (m .records)) (fill-needed (blocks s) 0 (m .xs)) (fill-needed (marksNeeded s) 0 (m .marks))
+      ∙ same-rows (fill-needed (s .n) idle (m .records)) (fill-needed (blocks s) 0 (m .xs))
+      (fill-needed (marksNeeded s) 0 (m .marks))
 
 pub setup-clears : EachSetupClears
 setup-clears s m = record { done = (done-lent s m, lent-done s m); clears = clears s m }

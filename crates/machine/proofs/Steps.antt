@@ -1,44 +1,30 @@
 -- An accepted call of the machine is a step of its grid: the one place where the two are compared, point by point.
-use mathlib.Core.Path.{_≡_, refl, sym, ap, subst, _∙_}
-use mathlib.Core.Logic.{_⊎_, inl, inr}
-use mathlib.Core.Bool.{true≢false, false}
-use mathlib.Core.List.{List}
+use mathlib.Core.{Path.{_≡_, refl, sym, ap, subst, _∙_}, Logic.{_⊎_, inl, inr}, Bool.{true≢false, false}, List.List}
 use Prim.Native.Nat.{ℕ, _+_, _≤_, _<_}
-use native.Mathlib.Nat.{le-trans}
-use native.Mathlib.Decide.{decLe, ℕ-discrete}
-use native.Mathlib.Omega.{arith}
-use lib.Dec.{T, leb, leb→le, ltb→lt, eqb→eq}
-use lib.ListN.{getD, set}
-use lib.Seq.{getD-set-same, getD-set-other}
+use native.Mathlib.{Nat.le-trans, Decide.{decLe, ℕ-discrete}, Omega.arith}
+use lib.{Dec.{T, leb, leb→le, ltb→lt, eqb→eq}, ListN.{getD, set}, Seq.{getD-set-same, getD-set-other}}
 use borrow.Author.Tests.{eqb-false}
-use Rattle.machine.specs.Settings.{width, own}
-use Rattle.machine.specs.Places.{blockNumber}
-use Rattle.machine.specs.Records.{idle, pointInRange, stateInRange}
+use Rattle.machine.specs.{Settings.{width, own}, Places.blockNumber, Records.{idle, pointInRange, stateInRange}}
 use Rattle.machine.specs.Memory.{Memory, markIndex, stateOf, withRecord}
 use Rattle.machine.specs.Turn.{access, store, arrive, move, leave, pointTurned}
-use Rattle.machine.specs.Refusals.{oneTimeRelease, wrongMoment}
-use Rattle.machine.specs.Calls.{nextState, accept}
-use Rattle.machine.specs.declared.Settings.{Settings}
-use Rattle.machine.specs.declared.Direction.{Direction}
-use Rattle.machine.specs.declared.Direction.the-variants.{Right, Down}
-use Rattle.machine.specs.declared.Point.{Point}
-use Rattle.machine.specs.declared.Point.the-variants.{WriteX, Scan, WriteMark, ReadX, Clear}
-use Rattle.machine.specs.declared.State.{State}
-use Rattle.machine.specs.declared.State.the-variants.{Idle, Seeking, Holding}
-use Rattle.machine.specs.declared.Record.{Record}
-use Rattle.machine.specs.declared.Access.{Access}
-use Rattle.machine.specs.declared.Access.the-variants.{NoAccess, XRead, XWritten, MarkRead, MarkWritten}
-use Rattle.machine.specs.declared.Kind.{Kind}
-use Rattle.machine.specs.declared.Kind.the-variants.{Ask, Turn, Release}
-use Rattle.counting.proofs.Bools.{and-l, and-r}
+use Rattle.machine.specs.{Refusals.{oneTimeRelease, wrongMoment}, Calls.{nextState, accept}}
+use Rattle.machine.specs.declared.{Settings.Settings, Direction.{Direction, the-variants.{Right, Down}}}
+use Rattle.machine.specs.declared.Point.{Point, the-variants.{WriteX, Scan, WriteMark, ReadX, Clear}}
+use Rattle.machine.specs.declared.{State.{State, the-variants.{Idle, Seeking, Holding}}, Record.Record}
+use Rattle.machine.specs.declared.Access.{Access, the-variants.{NoAccess, XRead, XWritten, MarkRead, MarkWritten}}
+use Rattle.machine.specs.declared.Kind.{Kind, the-variants.{Ask, Turn, Release}}
 use Rattle.machine.specs.Ranges.{WithinLimits}
-use Rattle.machine.proofs.Limits.{mode-most}
-use Rattle.machine.proofs.Turning.{scan-marked, scan-done, scan-on, reads-own, reads-other}
-use Rattle.grid.proofs.Stands.{Rules, mid, at, InPlace}
-use Rattle.grid.proofs.Moves.{Arrives, block, edge, Goes, Leaves, at-once, clearing, Move, Step, Effect, nothing, writes-x, writes-mark, XChange, MarkChange, asks, begins, passes, meets, marks, wins, loses, clears, frees, departs}
-use Rattle.machine.proofs.Seen.{wayOf, own-below, rulesOf, stageOf, standOf, xAt, markAt, gridOf, x-on-block, mark-on-block, x-put, mark-put}
-use Rattle.machine.proofs.Arriving.{arrive-edge, arrive-block, leave-at-once, leave-clearing, release-clears, release-nothing}
+use Rattle.counting.proofs.Bools.{and-l, and-r}
+use Rattle.machine.proofs.{Limits.mode-most, Turning.{scan-marked, scan-done, scan-on, reads-own, reads-other}}
+use Rattle.machine.proofs.Seen.{wayOf, own-below, rulesOf, stageOf, standOf, xAt, markAt, gridOf, x-on-block}
+use Rattle.machine.proofs.Seen.{mark-on-block, x-put, mark-put}
+use Rattle.machine.proofs.Arriving.{arrive-edge, arrive-block, leave-at-once, leave-clearing, release-clears}
+use Rattle.machine.proofs.Arriving.{release-nothing}
 use Rattle.machine.proofs.Passed.{Fit}
+use Rattle.grid.proofs.Stands.{Rules, mid, at, InPlace}
+use Rattle.grid.proofs.Moves.{Arrives, block, edge, Goes, Leaves, at-once, clearing, Move, Step, Effect, nothing}
+use Rattle.grid.proofs.Moves.{writes-x, writes-mark, XChange, MarkChange, asks, begins, passes, meets, marks, wins}
+use Rattle.grid.proofs.Moves.{loses, clears, frees, departs}
 
 -- ---- where a task comes to
 
@@ -48,19 +34,23 @@ module _ (s : Settings) (l : WithinLimits s) where
     where
       go : Dec (r + c + 1 ≡ s .k) → Arrives (s .k) r c (standOf (width s) (arrive s r c))
       go (yes e) = subst (λ (to : State). Arrives (s .k) r c (standOf (width s) to)) (arrive-edge s r c e) (edge e)
-      go (no d) = subst (λ (to : State). Arrives (s .k) r c (standOf (width s) to)) (arrive-block s r c d) (block {r = r} {c = c} (omega arith))
+      go (no d) = subst (λ (to : State). Arrives (s .k) r c (standOf (width s) to)) (arrive-block s r c d)
+          (block {r = r} {c = c} (omega arith))
 
   goes : (r c : ℕ) (d : Direction) → r + c + 2 ≤ s .k → Goes (s .k) r c (wayOf d) (standOf (width s) (move s r c d))
   goes r c Right b = arrives r (c + 1) (omega arith)
   goes r c Down b = arrives (r + 1) c (omega arith)
 
-  leaves : (r c : ℕ) (d : Direction) → r + c + 2 ≤ s .k → Leaves (rulesOf s l) r c (wayOf d) (standOf (width s) (leave s r c d))
+  leaves : (r c : ℕ) (d : Direction) → r + c + 2 ≤ s .k
+      → Leaves (rulesOf s l) r c (wayOf d) (standOf (width s) (leave s r c d))
   leaves r c d b = go (l .modes)
     where
       go : (s .mode ≡ 0) ⊎ (s .mode ≡ 1) → Leaves (rulesOf s l) r c (wayOf d) (standOf (width s) (leave s r c d))
-      go (inl e) = subst (λ (to : State). Leaves (rulesOf s l) r c (wayOf d) (standOf (width s) to)) (leave-at-once s r c d e) (at-once e (goes r c d b))
+      go (inl e) = subst (λ (to : State). Leaves (rulesOf s l) r c (wayOf d) (standOf (width s) to))
+          (leave-at-once s r c d e) (at-once e (goes r c d b))
       go (inr e) =
-          subst (λ (to : State). Leaves (rulesOf s l) r c (wayOf d) (standOf (width s) to)) (leave-clearing s r c d (λ z. omega arith)) (clearing e)
+          subst (λ (to : State). Leaves (rulesOf s l) r c (wayOf d) (standOf (width s) to))
+          (leave-clearing s r c d (λ z. omega arith)) (clearing e)
 
   -- a record in range stands in its place
   pub in-place : (state : State) → T (stateInRange s state) → InPlace (rulesOf s l) (standOf (width s) state)
@@ -69,7 +59,8 @@ module _ (s : Settings) (l : WithinLimits s) where
       point-in-place point (leb→le (r + c + 2) (s .k) (and-l (leb (r + c + 2) (s .k)) (pointInRange s point) t))
       (and-r (leb (r + c + 2) (s .k)) (pointInRange s point) t)
     where
-      point-in-place : (point : Point) → r + c + 2 ≤ s .k → T (pointInRange s point) → InPlace (rulesOf s l) (at r c (stageOf (width s) point))
+      point-in-place : (point : Point) → r + c + 2 ≤ s .k → T (pointInRange s point)
+          → InPlace (rulesOf s l) (at r c (stageOf (width s) point))
       point-in-place WriteX b t = (b, tt)
       point-in-place (Scan h) b t = let z = ltb→lt h (width s) t in omega arith
       point-in-place WriteMark b t = omega arith
@@ -103,7 +94,8 @@ module _ (s : Settings) (l : WithinLimits s) (m : Memory) (h : Fit s m) (p : ℕ
   own-mark = own-below s l p below
 
   scan-move : (r c i : ℕ) → r + c + 2 ≤ s .k → i < width s
-      → Move rules p (gridOf s m) (at r c (mid i)) nothing (standOf (width s) (nextState s Turn p (Seeking r c (Scan i)) m))
+      → Move rules p (gridOf s m) (at r c (mid i)) nothing
+      (standOf (width s) (nextState s Turn p (Seeking r c (Scan i)) m))
   scan-move r c i b w = go (ℕ-discrete seen 1) (ℕ-discrete (i + 1) (width s))
     where
       seen : ℕ
@@ -113,14 +105,18 @@ module _ (s : Settings) (l : WithinLimits s) (m : Memory) (h : Fit s m) (p : ℕ
       To next = Move rules p (gridOf s m) (at r c (mid i)) nothing (standOf (width s) next)
 
       go : Dec (seen ≡ 1) → Dec (i + 1 ≡ width s) → To (pointTurned s p r c (Scan i) seen)
-      go (yes met) last = subst To (scan-marked s p r c i seen met) (meets w (mark-on-block s (m .marks) r c i b w ∙ met) (leaves s l r c Right b))
+      go (yes met) last = subst To (scan-marked s p r c i seen met)
+          (meets w (mark-on-block s (m .marks) r c i b w ∙ met) (leaves s l r c Right b))
       go (no free) (yes e) =
-          subst To (scan-done s p r c i seen free e) (subst (λ (n : ℕ). Move rules p (gridOf s m) (at r c (mid i)) nothing (at r c (mid n))) e
+          subst To (scan-done s p r c i seen free e)
+          (subst (λ (n : ℕ). Move rules p (gridOf s m) (at r c (mid i)) nothing (at r c (mid n))) e
           (passes w (λ t. free (sym (mark-on-block s (m .marks) r c i b w) ∙ t))))
-      go (no free) (no d) = subst To (scan-on s p r c i seen free d) (passes w (λ t. free (sym (mark-on-block s (m .marks) r c i b w) ∙ t)))
+      go (no free) (no d) = subst To (scan-on s p r c i seen free d)
+          (passes w (λ t. free (sym (mark-on-block s (m .marks) r c i b w) ∙ t)))
 
   read-move : (r c : ℕ) → r + c + 2 ≤ s .k
-      → Move rules p (gridOf s m) (at r c (mid (width s + 1))) nothing (standOf (width s) (nextState s Turn p (Seeking r c ReadX) m))
+      → Move rules p (gridOf s m) (at r c (mid (width s + 1))) nothing
+      (standOf (width s) (nextState s Turn p (Seeking r c ReadX) m))
   read-move r c b = go (ℕ-discrete seen (p + 1))
     where
       seen : ℕ
@@ -131,7 +127,8 @@ module _ (s : Settings) (l : WithinLimits s) (m : Memory) (h : Fit s m) (p : ℕ
 
       go : Dec (seen ≡ p + 1) → To (pointTurned s p r c ReadX seen)
       go (yes e) = subst To (reads-own s p r c seen e) (wins refl (x-on-block s (m .xs) r c b ∙ e))
-      go (no d) = subst To (reads-other s p r c seen d) (loses refl (λ t. d (sym (x-on-block s (m .xs) r c b) ∙ t)) (leaves s l r c Down b))
+      go (no d) = subst To (reads-other s p r c seen d)
+          (loses refl (λ t. d (sym (x-on-block s (m .xs) r c b) ∙ t)) (leaves s l r c Down b))
 
   turn-moved : (r c : ℕ) (point : Point) → r + c + 2 ≤ s .k → T (pointInRange s point) → Moved Turn (Seeking r c point)
   turn-moved r c WriteX b t = record {
@@ -149,7 +146,8 @@ module _ (s : Settings) (l : WithinLimits s) (m : Memory) (h : Fit s m) (p : ℕ
   turn-moved r c WriteMark b t = record {
     effect = writes-mark r c 1;
     x-change = λ i j. refl;
-    mark-change = mark-put s l m (accept s Turn p (Seeking r c WriteMark) m .memory) r c (own s p) 1 b own-mark (h .long .marks) refl;
+    mark-change = mark-put s l m (accept s Turn p (Seeking r c WriteMark) m .memory) r c (own s p) 1 b own-mark
+        (h .long .marks) refl;
     move = marks refl;
   }
   turn-moved r c ReadX b t = record {
@@ -161,7 +159,8 @@ module _ (s : Settings) (l : WithinLimits s) (m : Memory) (h : Fit s m) (p : ℕ
   turn-moved r c (Clear d) b t = record {
     effect = writes-mark r c 0;
     x-change = λ i j. refl;
-    mark-change = mark-put s l m (accept s Turn p (Seeking r c (Clear d)) m .memory) r c (own s p) 0 b own-mark (h .long .marks) refl;
+    mark-change = mark-put s l m (accept s Turn p (Seeking r c (Clear d)) m .memory) r c (own s p) 0 b own-mark
+        (h .long .marks) refl;
     move = clears (eqb→eq (s .mode) 1 t) (goes s l r c d b);
   }
 
@@ -174,7 +173,8 @@ module _ (s : Settings) (l : WithinLimits s) (m : Memory) (h : Fit s m) (p : ℕ
           record {
             effect = writes-mark r c 0;
             x-change = λ i j. ap (λ (a : Access). xAt s (store s a m .xs) i j) clears;
-            mark-change = mark-put s l m (accept s Release p (Holding r c) m .memory) r c (own s p) 0 on own-mark (h .long .marks)
+            mark-change = mark-put s l m (accept s Release p (Holding r c) m .memory) r c (own s p) 0 on own-mark
+                (h .long .marks)
                 (ap (λ (a : Access). store s a m .marks) clears);
             move = frees one on;
           }
@@ -187,7 +187,8 @@ module _ (s : Settings) (l : WithinLimits s) (m : Memory) (h : Fit s m) (p : ℕ
             move = departs {i = r} {j = c} one (omega arith);
           }
 
-  moved : (kind : Kind) (state : State) → oneTimeRelease s kind ≡ false → wrongMoment kind state ≡ false → T (stateInRange s state) → Moved kind state
+  moved : (kind : Kind) (state : State) → oneTimeRelease s kind ≡ false → wrongMoment kind state ≡ false
+      → T (stateInRange s state) → Moved kind state
   moved Ask Idle once e t = record {
     effect = nothing;
     x-change = λ i j. refl;
@@ -209,13 +210,15 @@ module _ (s : Settings) (l : WithinLimits s) (m : Memory) (h : Fit s m) (p : ℕ
 
   -- ---- the step
 
-  pub caller-after : (kind : Kind) (state : State) → stateOf (accept s kind p state m .memory) p ≡ nextState s kind p state m
+  pub caller-after : (kind : Kind) (state : State)
+      → stateOf (accept s kind p state m .memory) p ≡ nextState s kind p state m
   caller-after kind state =
       let new : Record = record { state = nextState s kind p state m } in
       ap (λ (records : List Record). getD records p idle .state) (records-after s (access s kind p state) m p new)
       ∙ ap (λ (a : Record). a .state) (getD-set-same (m .records) p new idle (le-trans below (h .long .records)))
 
-  pub others-after : (kind : Kind) (state : State) (q : ℕ) → (q ≡ p → ⊥) → stateOf (accept s kind p state m .memory) q ≡ stateOf m q
+  pub others-after : (kind : Kind) (state : State) (q : ℕ) → (q ≡ p → ⊥)
+      → stateOf (accept s kind p state m .memory) q ≡ stateOf m q
   others-after kind state q d =
       let new : Record = record { state = nextState s kind p state m } in
       ap (λ (records : List Record). getD records q idle .state) (records-after s (access s kind p state) m p new)
@@ -223,8 +226,10 @@ module _ (s : Settings) (l : WithinLimits s) (m : Memory) (h : Fit s m) (p : ℕ
 
   -- how its task moves
   pub caller-moves : (kind : Kind) → oneTimeRelease s kind ≡ false → wrongMoment kind (stateOf m p) ≡ false
-      → (e : Effect) × Move rules p (gridOf s m) (standOf (width s) (stateOf m p)) e (standOf (width s) (nextState s kind p (stateOf m p) m))
-  caller-moves kind once e = let it = moved kind (stateOf m p) once e (h .in-range .records p below) in (it .effect, it .move)
+      → (e : Effect) × Move rules p (gridOf s m) (standOf (width s) (stateOf m p)) e
+      (standOf (width s) (nextState s kind p (stateOf m p) m))
+  caller-moves kind once e = let it = moved kind (stateOf m p) once e (h .in-range .records p below) in
+      (it .effect, it .move)
 
   pub accepted-step : (kind : Kind) → oneTimeRelease s kind ≡ false → wrongMoment kind (stateOf m p) ≡ false
       → Step rules (gridOf s m) (gridOf s (accept s kind p (stateOf m p) m .memory))

@@ -1,25 +1,14 @@
 -- What each accepted call answers, by the record that it leaves; a release by the record that it found.
-use mathlib.Core.Path.{_≡_, refl, sym, ap, subst, _∙_}
-use mathlib.Core.List.{List, [], _∷_}
+use mathlib.Core.{Path.{_≡_, refl, sym, ap, subst, _∙_}, List.{List, [], _∷_}}
 use Prim.Native.Nat.{ℕ}
 use native.Mathlib.Omega.{arith}
 use lib.Dec.{T}
-use Rattle.machine.specs.Places.{nameNumber}
-use Rattle.machine.specs.Records.{isSeeking}
-use Rattle.machine.specs.Memory.{Memory, stateOf}
-use Rattle.machine.specs.Answers.{said}
-use Rattle.machine.specs.Calls.{Outcome, eventOf, standing, freed, answerOf, nextState, call, setup, release}
-use Rattle.machine.specs.Demands.{HoldsName, Seeks, Tells}
-use Rattle.machine.specs.OneAccess.{AcceptedIn}
-use Rattle.machine.specs.Telling.{EachAnswerTells}
-use Rattle.machine.specs.declared.Settings.{Settings}
-use Rattle.machine.specs.declared.State.{State}
-use Rattle.machine.specs.declared.State.the-variants.{Idle, Seeking, Holding}
-use Rattle.machine.specs.declared.Kind.{Kind}
-use Rattle.machine.specs.declared.Kind.the-variants.{Ask, Turn, Release}
-use Rattle.machine.specs.declared.Answer.{Answer}
-use Rattle.machine.proofs.Passing.{by-the-rules}
-use Rattle.machine.proofs.Effects.{only-the-register-written-changes}
+use Rattle.machine.specs.{Places.nameNumber, Records.isSeeking, Memory.{Memory, stateOf}}
+use Rattle.machine.specs.Calls.{Outcome, eventOf, standing, freed, answerOf, nextState, call}
+use Rattle.machine.specs.{Demands.{Seeks, Tells}, OneAccess.AcceptedIn, Telling.EachAnswerTells}
+use Rattle.machine.specs.declared.{Settings.Settings, State.{State, the-variants.{Idle, Seeking, Holding}}}
+use Rattle.machine.specs.declared.{Kind.{Kind, the-variants.{Ask, Turn, Release}}, Answer.Answer}
+use Rattle.machine.proofs.{Passing.by-the-rules, Effects.only-the-register-written-changes}
 
 -- an answer tells what its case does
 pub tells : (answer is : Answer) (values : List ℕ) → answer ≡ is → Tells is values → (answer ≡ is) × Tells answer values
@@ -38,10 +27,12 @@ module _ (s : Settings) (p : ℕ) (m : Memory) where
   after : (kind : Kind) → AcceptedIn s (eventOf kind p) m → stateOf (call s (eventOf kind p) m .memory) p ≡ next kind
   after kind t = only-the-register-written-changes s (eventOf kind p) m t .own
 
-  answered : (kind : Kind) → AcceptedIn s (eventOf kind p) m → call s (eventOf kind p) m .answer ≡ answerOf s kind (stateOf m p) (next kind)
+  answered : (kind : Kind) → AcceptedIn s (eventOf kind p) m
+      → call s (eventOf kind p) m .answer ≡ answerOf s kind (stateOf m p) (next kind)
   answered kind t = ap (λ (o : Outcome). o .answer) (by-the-rules s (eventOf kind p) m t)
 
-  seeks-answered : (kind : Kind) → AcceptedIn s (eventOf kind p) m → T (isSeeking (next kind)) → call s (eventOf kind p) m .answer ≡ Answer.Seeks
+  seeks-answered : (kind : Kind) → AcceptedIn s (eventOf kind p) m → T (isSeeking (next kind))
+      → call s (eventOf kind p) m .answer ≡ Answer.Seeks
   seeks-answered Ask t seeks = answered Ask t ∙ seeks-told s (next Ask) seeks
   seeks-answered Turn t seeks = answered Turn t ∙ seeks-told s (next Turn) seeks
   seeks-answered Release t seeks = absurd seeks
@@ -55,13 +46,16 @@ module _ (s : Settings) (p : ℕ) (m : Memory) where
 pub each-answer-tells : EachAnswerTells
 each-answer-tells s p m = record {
   seeks = λ kind t seeks.
-      tells _ Answer.Seeks [] (seeks-answered s p m kind t (subst (λ (state : State). T (isSeeking state)) (after s p m kind t) seeks)) (refl, refl);
+      tells _ Answer.Seeks [] (seeks-answered s p m kind t
+      (subst (λ (state : State). T (isSeeking state)) (after s p m kind t) seeks)) (refl, refl);
   holds = λ kind n t held.
       tells _ (Answer.Holds (record { 0 = n })) (n ∷ [])
-      (holds-answered s p m kind (held .r) (held .c) t (sym (after s p m kind t) ∙ held .holds) ∙ ap (λ (name : ℕ). Answer.Holds (record { 0 = name })) (sym (held .named)))
+      (holds-answered s p m kind (held .r) (held .c) t (sym (after s p m kind t) ∙ held .holds)
+      ∙ ap (λ (name : ℕ). Answer.Holds (record { 0 = name })) (sym (held .named)))
       (refl, refl);
   frees = λ n t held.
       tells _ (Answer.Freed (record { 0 = n })) (n ∷ [])
-      (answered s p m Release t ∙ ap (freed s) (held .holds) ∙ ap (λ (name : ℕ). Answer.Freed (record { 0 = name })) (sym (held .named))) (refl, refl);
+      (answered s p m Release t ∙ ap (freed s) (held .holds)
+      ∙ ap (λ (name : ℕ). Answer.Freed (record { 0 = name })) (sym (held .named))) (refl, refl);
   done = λ ok. tells _ Answer.Done [] ok (refl, refl) .1;
 }

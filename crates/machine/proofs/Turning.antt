@@ -2,10 +2,8 @@
 use mathlib.Core.Path.{_≡_}
 use Prim.Native.Nat.{ℕ, _+_}
 use borrow.Author.Tests.{eq-eqb, ne-eqb}
-use Rattle.machine.specs.Settings.{width}
-use Rattle.machine.specs.Turn.{leave, pointTurned}
-use Rattle.machine.specs.declared.Settings.{Settings}
-use Rattle.machine.specs.declared.Direction.the-variants.{Right, Down}
+use Rattle.machine.specs.{Settings.width, Turn.{leave, pointTurned}}
+use Rattle.machine.specs.declared.{Settings.Settings, Direction.the-variants.{Right, Down}}
 use Rattle.machine.specs.declared.Point.the-variants.{Scan, WriteMark, ReadX}
 use Rattle.machine.specs.declared.State.the-variants.{Seeking, Holding}
 
@@ -19,7 +17,8 @@ module _ (s : Settings) (p r c : ℕ) where
   scan-done h v d e = rw (ne-eqb v 1 d, eq-eqb (h + 1) (width s) e)
 
   -- and before the last mark goes on to the next
-  pub scan-on : (h v : ℕ) → (v ≡ 1 → ⊥) → (h + 1 ≡ width s → ⊥) → Seeking r c (Scan (h + 1)) ≡ pointTurned s p r c (Scan h) v
+  pub scan-on : (h v : ℕ) → (v ≡ 1 → ⊥) → (h + 1 ≡ width s → ⊥)
+      → Seeking r c (Scan (h + 1)) ≡ pointTurned s p r c (Scan h) v
   scan-on h v d e = rw (ne-eqb v 1 d, ne-eqb (h + 1) (width s) e)
 
   -- who reads its own number in X holds the block

@@ -1,39 +1,25 @@
--- The worst schedule, followed from setup: no call of it is refused, and it leaves task 0 holding the place at the foot of the first column.
-use mathlib.Core.Path.{_≡_, refl, sym, ap, subst, _∙_}
-use mathlib.Core.Logic.{_⊎_, inl, inr}
-use mathlib.Core.Bool.{cond}
-use mathlib.Core.List.{List, [], _∷_}
+-- The worst schedule, followed from setup: no call of it is refused, and it leaves task 0 holding the place at the foot
+-- of the first column.
+use mathlib.Core.{Path.{_≡_, refl, sym, ap, subst, _∙_}, Logic.{_⊎_, inl, inr}, Bool.cond, List.{List, [], _∷_}}
 use Prim.Native.Nat.{ℕ, zero, suc, _+_, _-_, _≤_, _<_}
-use native.Mathlib.Nat.{le-refl}
-use native.Mathlib.Omega.{arith}
-use lib.Dec.{T, eqb}
-use lib.ListN.{getD, set}
+use native.Mathlib.{Nat.le-refl, Omega.arith}
+use lib.{Dec.eqb, ListN.{getD, set}}
 use borrow.Author.Tests.{eq-eqb, ne-eqb}
-use Rattle.machine.specs.Settings.{width, own}
-use Rattle.machine.specs.Places.{blockNumber}
-use Rattle.machine.specs.Memory.{Memory, markIndex, stateOf, outOf}
-use Rattle.machine.specs.Turn.{arrive, leave}
-use Rattle.machine.specs.Calls.{nextState, accept, setup, ask}
-use Rattle.machine.specs.History.{turns}
-use Rattle.machine.proofs.Worst.{worstRow, worstRows, worst}
+use Rattle.machine.specs.{Settings.{width, own}, Places.blockNumber, Memory.{Memory, markIndex, stateOf, outOf}}
+use Rattle.machine.specs.{Turn.{arrive, leave}, Calls.{nextState, accept, setup, ask}, History.turns}
 use Rattle.machine.specs.Demands.{SetUp}
-use Rattle.machine.specs.declared.Settings.{Settings}
-use Rattle.machine.specs.declared.Direction.the-variants.{Down}
-use Rattle.machine.specs.declared.Point.{Point}
-use Rattle.machine.specs.declared.Point.the-variants.{WriteX, Scan, WriteMark, ReadX, Clear}
-use Rattle.machine.specs.declared.State.{State}
-use Rattle.machine.specs.declared.State.the-variants.{Idle, Seeking, Holding}
-use Rattle.machine.specs.declared.Kind.the-variants.{Ask, Turn}
-use Rattle.machine.specs.declared.Event.{Event}
-use Rattle.machine.proofs.Limits.{width-least}
-use Rattle.machine.proofs.Fresh.{setup-within, fresh-idle, fresh-none-out}
-use Rattle.machine.proofs.Turning.{reads-other}
+use Rattle.machine.specs.declared.{Settings.Settings, Direction.the-variants.Down}
+use Rattle.machine.specs.declared.Point.{Point, the-variants.{WriteX, Scan, WriteMark, ReadX, Clear}}
+use Rattle.machine.specs.declared.State.{State, the-variants.{Idle, Seeking, Holding}}
+use Rattle.machine.specs.declared.{Kind.the-variants.{Ask, Turn}, Event.Event}
+use Rattle.machine.specs.Ranges.{WithinLimits}
+use Rattle.machine.proofs.{Worst.{worstRow, worstRows, worst}, Limits.width-least}
+use Rattle.machine.proofs.{Fresh.{setup-within, fresh-idle, fresh-none-out}, Turning.reads-other}
 use Rattle.machine.proofs.Arriving.{leave-at-once, leave-clearing}
 use Rattle.machine.proofs.Seen.{own-below, gridOf, x-on-block, mark-on-block, x-put, mark-put}
 use Rattle.machine.proofs.Histories.{Fine, fresh-fine, fresh-unmarked, one-more-out}
 use Rattle.machine.proofs.Leads.{Leads, leads-more, leads-append, leads-nowhere}
 use Rattle.machine.proofs.Laps.{Took, turn-took, ask-took, Lap, lap-over, lap-more, laps}
-use Rattle.machine.specs.Ranges.{WithinLimits}
 
 module _ (s : Settings) (fair : WithinLimits s) where
   -- ---- what a row needs of the memory
@@ -52,7 +38,8 @@ module _ (s : Settings) (fair : WithinLimits s) where
   abbrev scanned : ℕ → ℕ → State
   scanned r h = cond (eqb h (width s)) (Seeking r 0 WriteMark) (Seeking r 0 (Scan h))
 
-  scan-lap : (r p : ℕ) → r + 2 ≤ s .k → p < s .n → (left h : ℕ) → h + left ≡ width s → (m : Memory) → Fine s fair m → Unmarked r m
+  scan-lap : (r p : ℕ) → r + 2 ≤ s .k → p < s .n → (left h : ℕ) → h + left ≡ width s → (m : Memory) → Fine s fair m
+      → Unmarked r m
       → stateOf m p ≡ scanned r h → Lap s fair (Unmarked r) p (Seeking r 0 WriteMark) (turns left p) m
   scan-lap r p b l zero h e m f clean is = lap-over m f clean (is ∙ rw (eq-eqb h (width s) (omega arith)))
   scan-lap r p b l (suc left) h e m f clean is =
@@ -63,25 +50,30 @@ module _ (s : Settings) (fair : WithinLimits s) where
       lap-more here
       (scan-lap r p b l left (h + 1) (omega arith) _ (here .fine) clean (here .its ∙ next))
 
-  first-lap : (r p : ℕ) → r + 2 ≤ s .k → p < s .n → (m : Memory) → Fine s fair m → Unmarked r m → stateOf m p ≡ Seeking r 0 WriteX
+  first-lap : (r p : ℕ) → r + 2 ≤ s .k → p < s .n → (m : Memory) → Fine s fair m → Unmarked r m
+      → stateOf m p ≡ Seeking r 0 WriteX
       → Lap s fair (Unmarked r) p (Seeking r 0 WriteMark) (turns (suc (width s)) p) m
   first-lap r p b l m f clean is =
       let here = turn-took p r 0 WriteX m f l is in
       let some = width-least s fair in
       lap-more here
-      (scan-lap r p b l (width s) 0 (omega arith) _ (here .fine) clean (here .its ∙ rw (ne-eqb 0 (width s) (λ z. omega arith))))
+      (scan-lap r p b l (width s) 0 (omega arith) _ (here .fine) clean
+      (here .its ∙ rw (ne-eqb 0 (width s) (λ z. omega arith))))
 
   -- ---- its other turns there: it writes its mark, reads another's X and, long-lived, clears
 
   -- a mark of row r is none of the rows below
   below-unmarked : (r p value : ℕ) (point : Point) (m : Memory) → Fine s fair m → r + 2 ≤ s .k → p < s .n
-      → accept s Turn p (Seeking r 0 point) m .memory .marks ≡ set (m .marks) (markIndex s (blockNumber s r 0) (own s p)) value
+      → accept s Turn p (Seeking r 0 point) m .memory .marks ≡ set (m .marks)
+      (markIndex s (blockNumber s r 0) (own s p)) value
       → Unmarked (r + 1) m → Unmarked (r + 1) (accept s Turn p (Seeking r 0 point) m .memory)
   below-unmarked r p value point m f b l e clean i place h =
-      mark-put s fair m (accept s Turn p (Seeking r 0 point) m .memory) r 0 (own s p) value (omega arith) (own-below s fair p l)
+      mark-put s fair m (accept s Turn p (Seeking r 0 point) m .memory) r 0 (own s p) value (omega arith)
+      (own-below s fair p l)
       (f .good .sound .long .marks) e .there i 0 place (λ z _ _. omega arith) ∙ clean i place h
 
-  second-lap : (r n p : ℕ) → r + 2 ≤ s .k → p < n → p < s .n → (m : Memory) → Fine s fair m → Lost r n m → stateOf m p ≡ Seeking r 0 WriteMark
+  second-lap : (r n p : ℕ) → r + 2 ≤ s .k → p < n → p < s .n → (m : Memory) → Fine s fair m → Lost r n m
+      → stateOf m p ≡ Seeking r 0 WriteMark
       → Lap s fair (Lost r n) p (arrive s (r + 1) 0) (turns (s .mode + 2) p) m
   second-lap r n p b h l m f lost is = go (fair .modes)
     where
@@ -114,11 +106,18 @@ module _ (s : Settings) (fair : WithinLimits s) where
 
       go : (s .mode ≡ 0) ⊎ (s .mode ≡ 1) → Whole (s .mode)
       go (inl e) =
-          subst Whole (sym e) (lap-more marks (lap-more reads (lap-over m₂ (reads .fine) lost₂ (left ∙ sym (leave-at-once s r 0 Down e)))))
+          subst Whole (sym e) (lap-more marks
+          (lap-more reads (lap-over m₂ (reads .fine) lost₂ (left ∙ sym (leave-at-once s r 0 Down e)))))
       go (inr e) =
-          let clears = turn-took p r 0 (Clear Down) m₂ (reads .fine) l (left ∙ sym (leave-clearing s r 0 Down (λ z. omega arith))) in
-          let lost₃ : Lost r n m₃ = (below-unmarked r p 0 (Clear Down) m₂ (reads .fine) b l refl (lost₂ .0), lost₂ .1) in
-          subst Whole (sym e) (lap-more marks (lap-more reads (lap-more clears (lap-over m₃ (clears .fine) lost₃ (clears .its)))))
+          let clears = turn-took p r 0 (Clear Down) m₂ (reads .fine) l
+          (left ∙ sym (leave-clearing s r 0 Down (λ z. omega arith))) in
+          let lost₃ : Lost r n m₃ = (
+            below-unmarked r p 0 (Clear Down) m₂ (reads .fine) b l refl
+                (lost₂ .0),
+            lost₂ .1,
+          ) in
+          subst Whole (sym e) (lap-more marks
+          (lap-more reads (lap-more clears (lap-over m₃ (clears .fine) lost₃ (clears .its)))))
 
   -- ---- row after row
 
@@ -149,17 +148,20 @@ module _ (s : Settings) (fair : WithinLimits s) where
         x-put s fair (first .last) m₁ r 0 (suc n + 1) (omega arith) (first .fine .good .sound .long .xs) refl .here,
       ) in
       let second = laps (λ _. Lost r (suc n)) (Seeking r 0 WriteMark) (arrive s (r + 1) 0) (turns (s .mode + 2)) (suc n)
-      (λ p m₂ h. second-lap r (suc n) p b h (omega arith) m₂) m₁ (stays .fine) lost (λ q h. stays .others q (λ d. omega arith) ∙ first .theirs q h) in
+      (λ p m₂ h. second-lap r (suc n) p b h (omega arith) m₂) m₁ (stays .fine) lost
+      (λ q h. stays .others q (λ d. omega arith) ∙ first .theirs q h) in
       record {
         last = second .last;
         leads = leads-append {middle = first .last} {last = second .last} (first .leads)
-            (leads-more {last = second .last} (accept s Turn (suc n) (Seeking r 0 WriteX) (first .last)) (stays .does) (stays .says) (second .leads));
+            (leads-more {last = second .last} (accept s Turn (suc n) (Seeking r 0 WriteX) (first .last)) (stays .does)
+            (stays .says) (second .leads));
         fine = second .fine;
         keeps = second .keeps .0;
         theirs = second .theirs;
       }
 
-  go-down : (n r : ℕ) → r + n + 1 ≡ s .k → (m : Memory) → Fine s fair m → Unmarked r m → ((q : ℕ) → q < suc n → stateOf m q ≡ arrive s r 0)
+  go-down : (n r : ℕ) → r + n + 1 ≡ s .k → (m : Memory) → Fine s fair m → Unmarked r m
+      → ((q : ℕ) → q < suc n → stateOf m q ≡ arrive s r 0)
       → Foot (worstRows s n) m
   go-down zero r e m f clean all =
       let last : r ≡ s .k - 1 = omega arith in
@@ -191,12 +193,15 @@ module _ (s : Settings) (fair : WithinLimits s) where
       let more = one-more-out s fair Ask p m (f .good .sound) l in
       lap-more here (lap-over _ (here .fine) (omega arith, room .1) (here .its))
 
-pub worst-run : (s : Settings) (lent : Memory) (ok : SetUp s lent) → Foot s (setup-within s lent ok) (worst s) (setup s lent .memory)
+pub worst-run : (s : Settings) (lent : Memory) (ok : SetUp s lent)
+    → Foot s (setup-within s lent ok) (worst s) (setup s lent .memory)
 worst-run s lent ok =
     let fair = setup-within s lent ok in
     let bounds = fair in
-    let asks = laps (Room s fair) Idle (arrive s 0 0) (λ p. ask p ∷ []) (s .k) (λ p m h. ask-lap s fair p m (omega (arith, bounds .k-within)))
-    (setup s lent .memory) (fresh-fine s lent ok) (omega (arith, fresh-none-out s lent ok), λ i place _. fresh-unmarked s lent ok i 0 place)
+    let asks = laps (Room s fair) Idle (arrive s 0 0) (λ p. ask p ∷ []) (s .k)
+    (λ p m h. ask-lap s fair p m (omega (arith, bounds .k-within)))
+    (setup s lent .memory) (fresh-fine s lent ok)
+    (omega (arith, fresh-none-out s lent ok), λ i place _. fresh-unmarked s lent ok i 0 place)
     (λ q h. fresh-idle s lent ok q (omega (arith, bounds .k-within))) in
     let down = go-down s fair (s .k - 1) 0 (omega (arith, bounds .k-least)) (asks .last) (asks .fine) (asks .keeps .1)
     (λ q h. asks .theirs q (omega (arith, bounds .k-least))) in

@@ -1,26 +1,14 @@
 -- The worst schedule as a list: task 0's turns in it are as many as the bound, and its last call is task 0's.
-use mathlib.Core.Path.{_≡_, refl, ap, _∙_}
-use mathlib.Core.Logic.{_⊎_, inl, inr}
-use mathlib.Core.Bool.{cond}
-use mathlib.Core.List.{List, [], _∷_}
+use mathlib.Core.{Path.{_≡_, refl, ap, _∙_}, Logic.{_⊎_, inl, inr}, Bool.cond, List.{List, [], _∷_}}
 use Prim.Native.Nat.{ℕ, zero, suc, _+_, _-_, _*_, _≤_, _<_}
-use native.Mathlib.Nat.{le-antisymm, mul-le-mul-right, not-suc-le-zero}
-use native.Mathlib.Decide.{decLt}
-use native.Mathlib.Omega.{arith}
+use native.Mathlib.{Nat.{le-antisymm, mul-le-mul-right, not-suc-le-zero}, Decide.decLt, Omega.arith}
 use lib.Dec.{eqb, eqb·suc-zero}
 use borrow.Author.Tests.{eq-eqb, ne-eqb}
-use Rattle.machine.specs.Settings.{width}
-use Rattle.machine.specs.Calls.{ask, turn}
-use Rattle.machine.specs.History.{turns}
-use Rattle.machine.proofs.Worst.{each, worstRow, worstRows, worst}
-use Rattle.machine.specs.Demands.{bound}
-use Rattle.machine.specs.declared.Settings.{Settings}
-use Rattle.machine.specs.declared.Event.{Event}
-use Rattle.machine.specs.Ranges.{WithinLimits}
-use Rattle.machine.proofs.Seen.{rulesOf}
-use Rattle.grid.proofs.Spent.{cost}
-use Rattle.machine.proofs.Served.{bound-enough}
+use Rattle.machine.specs.{Settings.width, Calls.{ask, turn}, History.turns, Demands.bound}
+use Rattle.machine.specs.{declared.{Settings.Settings, Event.Event}, Ranges.WithinLimits}
+use Rattle.machine.proofs.{Worst.{each, worstRow, worstRows, worst}, Seen.rulesOf, Served.bound-enough}
 use Rattle.machine.proofs.Leads.{EndsWith, ends-alone, ends-append, ends-nil, writtenTurns, written-append}
+use Rattle.grid.proofs.Spent.{cost}
 
 -- ---- task 0's turns
 
@@ -34,7 +22,8 @@ written-own (suc count) t = written-own count (t + 1) ∙ omega arith
 
 written-other : (count p t : ℕ) → writtenTurns 0 (turns count (suc p)) t ≡ t
 written-other zero p t = refl
-written-other (suc count) p t = ap (writtenTurns 0 (turns count (suc p))) (not-zero p (t + 1) t) ∙ written-other count p t
+written-other (suc count) p t = ap (writtenTurns 0 (turns count (suc p))) (not-zero p (t + 1) t)
+    ∙ written-other count p t
 
 written-each : (count n t : ℕ) → writtenTurns 0 (each (turns count) (suc n)) t ≡ t + count
 written-each count zero t = written-append 0 (turns count 0) [] t ∙ written-own count t
@@ -82,7 +71,8 @@ module _ (s : Settings) where
   worst-turns l =
       written-append 0 (each (λ p. ask p ∷ []) (s .k)) (worstRows s (s .k - 1)) 0
       ∙ ap (writtenTurns 0 (worstRows s (s .k - 1))) (all-asks (s .k) (l .k-least))
-      ∙ written-rows (s .k - 1) 0 ∙ times (s .k - 1) (cost (rulesOf s l)) ∙ le-antisymm (bound-enough s l) (bound-needed l)
+      ∙ written-rows (s .k - 1) 0 ∙ times (s .k - 1) (cost (rulesOf s l))
+      ∙ le-antisymm (bound-enough s l) (bound-needed l)
     where
       all-asks : (k : ℕ) → 1 ≤ k → writtenTurns 0 (each (λ p. ask p ∷ []) k) 0 ≡ 0
       all-asks zero h = absurd (not-suc-le-zero h)

@@ -1,18 +1,11 @@
 -- 01, "Rules of the grid": setup, ask, turn and release, from the memory before to the answer and the memory after.
 use Prim.Native.Nat.{ℕ}
-use Rattle.machine.specs.Places.{blocks, nameNumber}
-use Rattle.machine.specs.Records.{idle}
+use Rattle.machine.specs.{Places.{blocks, nameNumber}, Records.idle}
 use Rattle.machine.specs.Memory.{Memory, marksNeeded, stateOf, viewOf, withRecord, fill}
-use Rattle.machine.specs.Turn.{access, value, store, next}
-use Rattle.machine.specs.Refusals.{setupVerdict, verdict}
-use Rattle.machine.specs.declared.Settings.{Settings}
-use Rattle.machine.specs.declared.Name.{Name}
-use Rattle.machine.specs.declared.State.{State}
-use Rattle.machine.specs.declared.State.the-variants.{Idle, Seeking, Holding}
-use Rattle.machine.specs.declared.Kind.{Kind}
-use Rattle.machine.specs.declared.Kind.the-variants.{Ask, Turn, Release}
-use Rattle.machine.specs.declared.Event.{Event}
-use Rattle.machine.specs.declared.Verdict.{Verdict}
+use Rattle.machine.specs.{Turn.{access, value, store, next}, Refusals.{setupVerdict, verdict}}
+use Rattle.machine.specs.declared.{Settings.Settings, Name.Name}
+use Rattle.machine.specs.declared.State.{State, the-variants.{Idle, Seeking, Holding}}
+use Rattle.machine.specs.declared.{Kind.{Kind, the-variants.{Ask, Turn, Release}}, Event.Event, Verdict.Verdict}
 use Rattle.machine.specs.declared.Answer.{Answer}
 
 pub record Outcome : Type 0 where
@@ -72,15 +65,22 @@ refuseOr (Verdict.Refused why) m outcome = record { answer = Answer.Refused why;
 
 -- what the tests of a call say of a memory
 abbrev pub verdictOf : Settings → Event → Memory → Verdict
-verdictOf s event m = verdict s (event .kind) (event .task .0) (viewOf s (m .records) (event .task .0)) (m .xs) (m .marks)
+verdictOf s event m = verdict s (event .kind) (event .task .0) (viewOf s (m .records) (event .task .0)) (m .xs)
+    (m .marks)
 
 -- ask, turn or release of one task
 abbrev pub call : Settings → Event → Memory → Outcome
-call s event m = refuseOr (verdictOf s event m) m (accept s (event .kind) (event .task .0) (stateOf m (event .task .0)) m)
+call s event m = refuseOr (verdictOf s event m) m
+    (accept s (event .kind) (event .task .0) (stateOf m (event .task .0)) m)
 
 -- setup makes the N records idle, all X 0 and all marks 0
 abbrev pub cleared : Settings → Memory → Memory
-cleared s m = record { records = fill (s .n) idle (m .records); xs = fill (blocks s) 0 (m .xs); marks = fill (marksNeeded s) 0 (m .marks) }
+cleared s m = record {
+  records = fill (s .n) idle (m .records);
+  xs = fill (blocks s) 0 (m .xs);
+  marks = fill (marksNeeded s) 0 (m .marks);
+}
 
 abbrev pub setup : Settings → Memory → Outcome
-setup s m = refuseOr (setupVerdict s (viewOf s (m .records) 0) (m .xs) (m .marks)) m (record { answer = Answer.Done; memory = cleared s m })
+setup s m = refuseOr (setupVerdict s (viewOf s (m .records) 0) (m .xs) (m .marks)) m
+    (record { answer = Answer.Done; memory = cleared s m })

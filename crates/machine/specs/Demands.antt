@@ -1,22 +1,14 @@
--- 00, demand 3: "Take an accepted setup, then any calls but setup, all with its settings and on its memory, which nothing else touches."
--- The calls are any list of asks, turns and releases, of any task numbers, the refused ones included.
-use mathlib.Core.Path.{_≡_}
-use mathlib.Core.Bool.{Bool, true, false, cond, _&&_}
-use mathlib.Core.List.{List, [], _∷_, _++_}
+-- 00, demand 3: "Take an accepted setup, then any calls but setup, all with its settings and on its memory, which
+-- nothing else touches." The calls are any list of asks, turns and releases, of any task numbers, the refused ones
+-- included.
+use mathlib.Core.{Path._≡_, Bool.{Bool, true, cond, _&&_}, List.{List, [], _∷_, _++_}}
 use Prim.Native.Nat.{ℕ, _+_, _-_, _*_, _/_, _≤_, _<_}
 use lib.Dec.{T, eqb}
-use Rattle.machine.specs.Places.{nameNumber}
-use Rattle.machine.specs.Records.{isSeeking, isHolding}
-use Rattle.machine.specs.Memory.{Memory, stateOf, largest}
-use Rattle.machine.specs.Answers.{said, isAccepted}
-use Rattle.machine.specs.Calls.{nameAt, call, setup, turn, release}
-use Rattle.machine.specs.Ranges.{WithinLimits}
-use Rattle.machine.specs.History.{run, Answered, history, turnsOf, turns}
-use Rattle.machine.specs.declared.Settings.{Settings}
-use Rattle.machine.specs.declared.State.{State}
-use Rattle.machine.specs.declared.State.the-variants.{Idle, Seeking, Holding}
-use Rattle.machine.specs.declared.Event.{Event}
-use Rattle.machine.specs.declared.Answer.{Answer}
+use Rattle.machine.specs.{Places.nameNumber, Records.{isSeeking, isHolding}, Memory.{Memory, stateOf, largest}}
+use Rattle.machine.specs.{Answers.{said, isAccepted}, Calls.{nameAt, call, setup, turn, release}}
+use Rattle.machine.specs.{Ranges.WithinLimits, History.{run, Answered, history, turnsOf, turns}}
+use Rattle.machine.specs.declared.{Settings.Settings, State.{State, the-variants.{Idle, Seeking, Holding}}}
+use Rattle.machine.specs.declared.{Event.Event, Answer.Answer}
 
 -- ---- what the statements speak of
 
@@ -55,10 +47,11 @@ Tells answer values = (said answer .number ≡ 0) × (said answer .values ≡ va
 -- what the last accepted call of task p answered; `before` where there was none
 abbrev pub lastAnswer : ℕ → List Answered → Answer → Answer
 lastAnswer p [] before = before
-lastAnswer p (done ∷ rest) before = lastAnswer p rest (cond (isAccepted (done .answer) && eqb (done .event .task .0) p) (done .answer) before)
+lastAnswer p (done ∷ rest) before = lastAnswer p rest
+    (cond (isAccepted (done .answer) && eqb (done .event .task .0) p) (done .answer) before)
 
--- what a task was last answered is true of its record: after "seeks" it seeks, after "holds" with a name it holds that name, and before its first
--- ask and after "freed" it is idle
+-- what a task was last answered is true of its record: after "seeks" it seeks, after "holds" with a name it holds that
+-- name, and before its first ask and after "freed" it is idle
 abbrev pub TrueOf : Settings → State → Answer → Type 0
 TrueOf s Idle (Answer.Done) = Unit {0}
 TrueOf s Idle (Answer.Seeks) = ⊥
@@ -92,8 +85,8 @@ LastAnswerTrue =
     (s : Settings) (lent : Memory) (events : List Event) → SetUp s lent → (p : ℕ) → p < s .n
     → TrueOf s (stateOf (memoryAfter s lent events) p) (lastAnswer p (historyOf s lent events) Answer.Done)
 
--- the name that a task holds is the one that it was last answered, and the one that its release answers; both answers are acceptances whose one
--- value is the name
+-- the name that a task holds is the one that it was last answered, and the one that its release answers; both answers
+-- are acceptances whose one value is the name
 pub record Told (s : Settings) (lent : Memory) (events : List Event) (p n : ℕ) : Type 0 where
   pub answered : lastAnswer p (historyOf s lent events) Answer.Done ≡ Answer.Holds (record { 0 = n })
   pub answer-tells : Tells (lastAnswer p (historyOf s lent events) Answer.Done) (n ∷ [])
@@ -108,11 +101,13 @@ HeldNameAnswered =
 -- "No turn of a seeking task is refused"
 abbrev pub SeekerNeverRefused : Type 0
 SeekerNeverRefused =
-    (s : Settings) (lent : Memory) (events : List Event) → SetUp s lent → (p : ℕ) → p < s .n → Seeks (memoryAfter s lent events) p
+    (s : Settings) (lent : Memory) (events : List Event) → SetUp s lent → (p : ℕ) → p < s .n
+    → Seeks (memoryAfter s lent events) p
     → T (isAccepted (call s (turn p) (memoryAfter s lent events) .answer))
 
--- "From an accepted ask, a task holds a name within .. of its own accepted turns": it has used fewer than the bound while it seeks, at most the
--- bound when it holds, and from any point on its own turns alone, "though every other task stops for good", bring it to hold within the bound
+-- "From an accepted ask, a task holds a name within .. of its own accepted turns": it has used fewer than the bound
+-- while it seeks, at most the bound when it holds, and from any point on its own turns alone, "though every other task
+-- stops for good", bring it to hold within the bound
 pub record Served (s : Settings) (lent : Memory) (events : List Event) (p : ℕ) : Type 0 where
   pub seeking : Seeks (memoryAfter s lent events) p → used s lent events p < bound s
   pub holding : HoldsSome (memoryAfter s lent events) p → used s lent events p ≤ bound s
@@ -120,15 +115,17 @@ pub record Served (s : Settings) (lent : Memory) (events : List Event) (p : ℕ)
       → (more : ℕ) × (used s lent events p + more ≤ bound s) × HoldsSome (memoryAfter s lent (events ++ turns more p)) p
 
 abbrev pub ServedWithin : Type 0
-ServedWithin = (s : Settings) (lent : Memory) (events : List Event) → SetUp s lent → (p : ℕ) → p < s .n → Served s lent events p
+ServedWithin = (s : Settings) (lent : Memory) (events : List Event) → SetUp s lent → (p : ℕ) → p < s .n
+    → Served s lent events p
 
 -- no call of a history is refused
 abbrev pub allAccepted : List Answered → Bool
 allAccepted [] = true
 allAccepted (done ∷ rest) = isAccepted (done .answer) && allAccepted rest
 
--- "For each permitted mode, N and k some sequence makes one task need exactly that many": after the calls `before` task 0 still seeks (with k = 1 it
--- has not asked), its next call lets it hold, it has then used exactly the bound, and no call is refused
+-- "For each permitted mode, N and k some sequence makes one task need exactly that many": after the calls `before` task
+-- 0 still seeks (with k = 1 it has not asked), its next call lets it hold, it has then used exactly the bound, and no
+-- call is refused
 pub record NeedsBound (s : Settings) (lent : Memory) (events : List Event) : Type 0 where
   pub accepted : T (allAccepted (historyOf s lent events))
   pub before : List Event
@@ -140,7 +137,8 @@ pub record NeedsBound (s : Settings) (lent : Memory) (events : List Event) : Typ
   pub exactly : used s lent events 0 ≡ bound s
 
 abbrev pub BoundExact : Type 0
-BoundExact = (s : Settings) → WithinLimits s → (events : List Event) × ((lent : Memory) → SetUp s lent → NeedsBound s lent events)
+BoundExact = (s : Settings) → WithinLimits s
+    → (events : List Event) × ((lent : Memory) → SetUp s lent → NeedsBound s lent events)
 
 -- setup of a memory with rows long enough is accepted, so none of the above is empty
 abbrev pub SetupTakes : Type 0

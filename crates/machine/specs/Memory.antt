@@ -1,17 +1,10 @@
 -- 01, "Memory that is lent": the three rows, what a call needs of them, and what one register written leaves.
-use mathlib.Core.Bool.{Bool}
-use mathlib.Core.List.{List, _++_}
+use mathlib.Core.{Bool.Bool, List.{List, _++_}}
 use Prim.Native.Nat.{ℕ, _+_, _*_}
-use lib.Dec.{leb}
-use lib.ListN.{length, getD, set, replicate, drop}
+use lib.{Dec.leb, ListN.{length, getD, set, replicate, drop}}
 use Rattle.counting.specs.Counting.{count, firstBad}
-use Rattle.machine.specs.Settings.{width}
-use Rattle.machine.specs.Places.{blocks}
-use Rattle.machine.specs.Records.{idle, isOut, recordInRange}
-use Rattle.machine.specs.declared.Settings.{Settings}
-use Rattle.machine.specs.declared.State.{State}
-use Rattle.machine.specs.declared.Record.{Record}
-use Rattle.machine.specs.declared.View.{View}
+use Rattle.machine.specs.{Settings.width, Places.blocks, Records.{idle, isOut, recordInRange}}
+use Rattle.machine.specs.declared.{Settings.Settings, State.State, Record.Record, View.View}
 
 -- what the supervisor lends; a row may be longer than needed
 pub record Memory : Type 0 where
@@ -67,7 +60,12 @@ outOf s records = count (λ p. isOut (getD records p idle .state)) (s .n)
 
 -- what a call of task p sees of the records
 abbrev pub viewOf : Settings → List Record → ℕ → View
-viewOf s records p = record { length = length records; bad = badRecord s records; out = outOf s records; own = getD records p idle }
+viewOf s records p = record {
+  length = length records;
+  bad = badRecord s records;
+  out = outOf s records;
+  own = getD records p idle;
+}
 
 -- ---- setup
 

@@ -1,15 +1,11 @@
--- 01, "Memory that is lent" and "Rules of the grid": how many blocks and names there are, the number of each, and what the tests of a state say.
--- Theorems: `places-numbered`, `state-told`.
-use mathlib.Core.Path.{_≡_}
-use mathlib.Core.Logic.{_↔_}
+-- 01, "Memory that is lent" and "Rules of the grid": how many blocks and names there are, the number of each, and what
+-- the tests of a state say. Theorems: `places-numbered`, `state-told`.
+use mathlib.Core.{Path._≡_, Logic._↔_}
 use Prim.Native.Nat.{ℕ, _+_, _-_, _*_, _/_, _≤_}
 use lib.Dec.{T}
-use Rattle.machine.specs.Places.{blocks, blockNumber, names, nameNumber}
-use Rattle.machine.specs.Records.{isIdle, isSeeking, isHolding}
-use Rattle.machine.specs.declared.Settings.{Settings}
-use Rattle.machine.specs.declared.Point.{Point}
-use Rattle.machine.specs.declared.State.{State}
-use Rattle.machine.specs.declared.State.the-variants.{Idle, Seeking, Holding}
+use Rattle.machine.specs.{Places.{blocks, blockNumber, names, nameNumber}, Records.{isIdle, isSeeking, isHolding}}
+use Rattle.machine.specs.declared.{Settings.Settings, Point.Point}
+use Rattle.machine.specs.declared.State.{State, the-variants.{Idle, Seeking, Holding}}
 
 pub record PlacesNumbered (s : Settings) : Type 0 where
   -- "B = k(k-1)/2 blocks"

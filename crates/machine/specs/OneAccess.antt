@@ -1,27 +1,15 @@
--- 01, "Rules of the grid" and "Numbers of refusal": "exactly one access", and "An access shows in its effect: tests apart, of X and marks only the
--- register read bears on the next record and the answer, and only the one written changes." Theorems: `one-access`, `only-the-register-read-bears`,
--- `only-the-register-written-changes`.
-use mathlib.Core.Path.{_≡_}
-use mathlib.Core.Bool.{Bool, true, false, not}
-use mathlib.Core.List.{List}
+-- 01, "Rules of the grid" and "Numbers of refusal": "exactly one access", and "An access shows in its effect: tests
+-- apart, of X and marks only the register read bears on the next record and the answer, and only the one written
+-- changes." Theorems: `one-access`, `only-the-register-read-bears`, `only-the-register-written-changes`.
+use mathlib.Core.{Path._≡_, Bool.{Bool, true, false, not}, List.List}
 use Prim.Native.Nat.{ℕ, _+_, _≤_, _<_}
-use lib.Dec.{T}
-use lib.ListN.{length, getD}
-use Rattle.machine.specs.Settings.{width, own}
-use Rattle.machine.specs.Places.{blocks, blockNumber}
-use Rattle.machine.specs.Memory.{Memory, marksNeeded, markIndex, recordOf, stateOf}
-use Rattle.machine.specs.Turn.{access}
-use Rattle.machine.specs.Answers.{isAccepted}
-use Rattle.machine.specs.Calls.{nextState, call}
-use Rattle.machine.specs.Ranges.{WithinLimits, StateWithin}
-use Rattle.machine.specs.declared.Settings.{Settings}
-use Rattle.machine.specs.declared.Point.{Point}
-use Rattle.machine.specs.declared.State.{State}
-use Rattle.machine.specs.declared.State.the-variants.{Seeking, Holding}
-use Rattle.machine.specs.declared.Access.{Access}
-use Rattle.machine.specs.declared.Access.the-variants.{NoAccess, XRead, XWritten, MarkRead, MarkWritten}
-use Rattle.machine.specs.declared.Kind.the-variants.{Ask, Turn, Release}
-use Rattle.machine.specs.declared.Event.{Event}
+use lib.{Dec.T, ListN.{length, getD}}
+use Rattle.machine.specs.{Settings.{width, own}, Places.{blocks, blockNumber}}
+use Rattle.machine.specs.{Memory.{Memory, marksNeeded, markIndex, recordOf, stateOf}, Turn.access}
+use Rattle.machine.specs.{Answers.isAccepted, Calls.{nextState, call}, Ranges.{WithinLimits, StateWithin}}
+use Rattle.machine.specs.declared.{Settings.Settings, Point.Point, State.{State, the-variants.{Seeking, Holding}}}
+use Rattle.machine.specs.declared.Access.{Access, the-variants.{NoAccess, XRead, XWritten, MarkRead, MarkWritten}}
+use Rattle.machine.specs.declared.{Kind.the-variants.{Ask, Turn, Release}, Event.Event}
 
 -- ---- which register
 
@@ -48,14 +36,15 @@ RegisterNeeded s (XWritten block v) = XNeeded s block
 RegisterNeeded s (MarkRead block place) = MarkNeeded s block place
 RegisterNeeded s (MarkWritten block place v) = MarkNeeded s block place
 
--- an ask: "No register is touched." A turn: "for a seeking task p, exactly one access". A release: "if r+c ≤ k-2 its own mark in that block becomes 0;
--- otherwise no access"
+-- an ask: "No register is touched." A turn: "for a seeking task p, exactly one access". A release: "if r+c ≤ k-2 its
+-- own mark in that block becomes 0; otherwise no access"
 pub record OneAccess (s : Settings) (p : ℕ) : Type 0 where
   pub ask : (state : State) → access s Ask p state ≡ NoAccess
   pub turn : (r c : ℕ) (point : Point) → StateWithin s (Seeking r c point)
       → T (touches (access s Turn p (Seeking r c point))) × RegisterNeeded s (access s Turn p (Seeking r c point))
   pub release-block : (r c : ℕ) → r + c + 2 ≤ s .k
-      → (access s Release p (Holding r c) ≡ MarkWritten (blockNumber s r c) (own s p) 0) × MarkNeeded s (blockNumber s r c) (own s p)
+      → (access s Release p (Holding r c) ≡ MarkWritten (blockNumber s r c) (own s p) 0) × MarkNeeded s
+      (blockNumber s r c) (own s p)
   pub release-edge : (r c : ℕ) → r + c + 1 ≡ s .k → access s Release p (Holding r c) ≡ NoAccess
 
 abbrev pub EachOneAccess : Type 0
@@ -84,16 +73,18 @@ abbrev pub SameRead : Settings → Access → Memory → Memory → Type 0
 SameRead s NoAccess m m′ = Unit {0}
 SameRead s (XRead block) m m′ = getD (m .xs) block 0 ≡ getD (m′ .xs) block 0
 SameRead s (XWritten block v) m m′ = Unit {0}
-SameRead s (MarkRead block place) m m′ = getD (m .marks) (markIndex s block place) 0 ≡ getD (m′ .marks) (markIndex s block place) 0
+SameRead s (MarkRead block place) m m′ = getD (m .marks) (markIndex s block place) 0 ≡ getD (m′ .marks)
+    (markIndex s block place) 0
 SameRead s (MarkWritten block place v) m m′ = Unit {0}
 
 -- a call on two memories gives the same answer and the same next record
 pub record SameEnd (s : Settings) (event : Event) (m m′ : Memory) : Type 0 where
   pub answer : call s event m .answer ≡ call s event m′ .answer
-  pub next-record : recordOf (call s event m .memory) (event .task .0) ≡ recordOf (call s event m′ .memory) (event .task .0)
+  pub next-record : recordOf (call s event m .memory) (event .task .0) ≡ recordOf (call s event m′ .memory)
+      (event .task .0)
 
--- "tests apart": the call is accepted on both memories. Then, from one record of the task, the register read decides the rest, and where none is
--- read, in an ask, a release or a turn that writes, no X and no mark bears
+-- "tests apart": the call is accepted on both memories. Then, from one record of the task, the register read decides
+-- the rest, and where none is read, in an ask, a release or a turn that writes, no X and no mark bears
 pub record ReadBears (s : Settings) (event : Event) (m m′ : Memory) : Type 0 where
   pub register-read : SameRead s (accessOf s event m) m m′ → SameEnd s event m m′
   pub nothing-read : T (not (reads (accessOf s event m))) → SameEnd s event m m′
@@ -131,8 +122,8 @@ pub record ChangesOnly {A : Type 0} (indices : ℕ → Type 0) (row after : List
   pub long : length after ≡ length row
   pub others : (i : ℕ) (d : A) → (indices i → ⊥) → getD after i d ≡ getD row i d
 
--- from the memory before an accepted call to the memory after it: of X and marks only the element written changes, and it has the value written;
--- of the records only the task's own, and it is the next record
+-- from the memory before an accepted call to the memory after it: of X and marks only the element written changes, and
+-- it has the value written; of the records only the task's own, and it is the next record
 pub record WrittenChanges (s : Settings) (event : Event) (m after : Memory) : Type 0 where
   pub xs : ChangesOnly (WritesX (accessOf s event m)) (m .xs) (after .xs)
   pub marks : ChangesOnly (WritesMark s (accessOf s event m)) (m .marks) (after .marks)
@@ -142,4 +133,5 @@ pub record WrittenChanges (s : Settings) (event : Event) (m after : Memory) : Ty
 
 abbrev pub OnlyTheRegisterWrittenChanges : Type 0
 OnlyTheRegisterWrittenChanges =
-    (s : Settings) (event : Event) (m : Memory) → AcceptedIn s event m → WrittenChanges s event m (call s event m .memory)
+    (s : Settings) (event : Event) (m : Memory) → AcceptedIn s event m
+    → WrittenChanges s event m (call s event m .memory)

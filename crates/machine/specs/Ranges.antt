@@ -1,18 +1,14 @@
--- 01, "What the supervisor holds" and "Memory that is lent": the limits of the settings, how much of each lent row is needed, and which values are
--- in range, in plain terms of numbers. None of the tests of the definitions is cited here; `refusal-exact` proves that they say the same.
-use mathlib.Core.Path.{_≡_}
-use mathlib.Core.Logic.{_⊎_}
-use mathlib.Core.Bool.{Bool, true, false}
+-- 01, "What the supervisor holds" and "Memory that is lent": the limits of the settings, how much of each lent row is
+-- needed, and which values are in range, in plain terms of numbers. None of the tests of the definitions is cited here;
+-- `refusal-exact` proves that they say the same.
+use mathlib.Core.{Path._≡_, Logic._⊎_, Bool.{Bool, true, false}}
 use Prim.Native.Nat.{ℕ, _+_, _-_, _*_, _/_, _≤_, _<_}
 use lib.ListN.{getD}
 use Rattle.machine.specs.Memory.{Memory, stateOf}
 use Rattle.machine.specs.declared.Settings.{Settings}
-use Rattle.machine.specs.declared.Point.{Point}
-use Rattle.machine.specs.declared.Point.the-variants.{WriteX, Scan, WriteMark, ReadX, Clear}
-use Rattle.machine.specs.declared.State.{State}
-use Rattle.machine.specs.declared.State.the-variants.{Idle, Seeking, Holding}
-use Rattle.machine.specs.declared.Row.{Row}
-use Rattle.machine.specs.declared.Row.the-variants.{Records, Xs, Marks}
+use Rattle.machine.specs.declared.Point.{Point, the-variants.{WriteX, Scan, WriteMark, ReadX, Clear}}
+use Rattle.machine.specs.declared.State.{State, the-variants.{Idle, Seeking, Holding}}
+use Rattle.machine.specs.declared.Row.{Row, the-variants.{Records, Xs, Marks}}
 
 -- "mode 0 (one-time) or 1 (long-lived); N from 1 to 256; k from 1 to 16 and at most N"
 pub record WithinLimits (s : Settings) : Type 0 where
@@ -23,12 +19,13 @@ pub record WithinLimits (s : Settings) : Type 0 where
   pub k-most : s .k ≤ 16
   pub k-within : s .k ≤ s .n
 
--- more than so many values of a row are needed: "at least N records"; "X numbers: one for each block, B = k(k-1)/2 blocks"; marks: "B in mode 0,
--- B times N in mode 1"
+-- more than so many values of a row are needed: "at least N records"; "X numbers: one for each block, B = k(k-1)/2
+-- blocks"; marks: "B in mode 0, B times N in mode 1"
 abbrev pub NeedsMore : Settings → Row → ℕ → Type 0
 NeedsMore s Records n = n < s .n
 NeedsMore s Xs n = n < s .k * (s .k - 1) / 2
-NeedsMore s Marks n = ((s .mode ≡ 0) × (n < s .k * (s .k - 1) / 2)) ⊎ ((s .mode ≡ 1) × (n < s .k * (s .k - 1) / 2 * s .n))
+NeedsMore s Marks n = ((s .mode ≡ 0) × (n < s .k * (s .k - 1) / 2))
+    ⊎ ((s .mode ≡ 1) × (n < s .k * (s .k - 1) / 2 * s .n))
 
 -- "write X; scan at h (0 ≤ h < N, only h = 0 in mode 0); write mark; read X; clear, going right or down (mode 1 only)"
 abbrev pub PointWithin : Settings → Point → Type 0

@@ -1,23 +1,15 @@
 -- 01, "Numbers of refusal": each case by itself, and the first of them in each call's order.
-use mathlib.Core.Bool.{Bool, false, not, _||_, cond}
-use mathlib.Core.List.{List, [], _∷_}
+use mathlib.Core.{Bool.{Bool, false, not, _||_, cond}, List.{List, [], _∷_}}
 use Prim.Native.Nat.{ℕ}
-use lib.Dec.{eqb, leb, ltb}
-use lib.ListN.{length}
-use Rattle.machine.specs.Settings.{permitted}
-use Rattle.machine.specs.Places.{blocks}
-use Rattle.machine.specs.Records.{isIdle, isSeeking, isHolding}
+use lib.{Dec.{eqb, leb, ltb}, ListN.length}
+use Rattle.machine.specs.{Settings.permitted, Places.blocks, Records.{isIdle, isSeeking, isHolding}}
 use Rattle.machine.specs.Memory.{marksNeeded, badX, badMark}
-use Rattle.machine.specs.declared.Settings.{Settings}
-use Rattle.machine.specs.declared.State.{State}
-use Rattle.machine.specs.declared.Kind.{Kind}
-use Rattle.machine.specs.declared.Kind.the-variants.{Ask, Turn, Release}
+use Rattle.machine.specs.declared.{Settings.Settings, State.State, Kind.{Kind, the-variants.{Ask, Turn, Release}}}
 use Rattle.machine.specs.declared.Row.the-variants.{Records, Xs, Marks}
 use Rattle.machine.specs.declared.Refusal.{Refusal}
-use Rattle.machine.specs.declared.Refusal.the-variants.{Limits, ShortRow, OutOfRange, NoSuchTask, OneTime, WrongMoment, TooManyOut}
-use Rattle.machine.specs.declared.View.{View}
-use Rattle.machine.specs.declared.Verdict.{Verdict}
-use Rattle.machine.specs.declared.Verdict.the-variants.{Accepted, Refused}
+use Rattle.machine.specs.declared.Refusal.the-variants.{Limits, ShortRow, OutOfRange, NoSuchTask, OneTime}
+use Rattle.machine.specs.declared.Refusal.the-variants.{WrongMoment, TooManyOut}
+use Rattle.machine.specs.declared.{View.View, Verdict.{Verdict, the-variants.{Accepted, Refused}}}
 
 -- a refusal, and whether its case holds
 pub record Case : Type 0 where
@@ -40,7 +32,8 @@ outsideLimits s = not (permitted s)
 abbrev pub rowShort : Settings → ℕ → List ℕ → List ℕ → Bool
 rowShort s records xs marks = ltb records (s .n) || (ltb (length xs) (blocks s) || ltb (length marks) (marksNeeded s))
 
--- 3: a needed value is out of range: records first, then X, then marks, each with the index of the first bad value; `rest` follows
+-- 3: a needed value is out of range: records first, then X, then marks, each with the index of the first bad value;
+-- `rest` follows
 abbrev pub rangeCases : Settings → View → List ℕ → List ℕ → List Case → List Case
 rangeCases s seen xs marks rest =
     when (ltb (seen .bad) (s .n)) (OutOfRange Records (seen .bad))
@@ -72,7 +65,8 @@ tooManyOut s Release out = false
 
 -- the cases in their order: what is lent, 1 and 2; what it holds, 3, above; the task, 4 to 7
 abbrev pub lentCases : Settings → View → List ℕ → List ℕ → List Case → List Case
-lentCases s seen xs marks rest = when (outsideLimits s) Limits ∷ when (rowShort s (seen .length) xs marks) ShortRow ∷ rest
+lentCases s seen xs marks rest = when (outsideLimits s) Limits ∷ when
+    (rowShort s (seen .length) xs marks) ShortRow ∷ rest
 
 abbrev pub taskCases : Settings → Kind → ℕ → View → List Case
 taskCases s kind p seen =
@@ -88,4 +82,5 @@ setupVerdict s seen xs marks = first (lentCases s seen xs marks [])
 
 -- the other calls 1 to 7 ascending
 abbrev pub verdict : Settings → Kind → ℕ → View → List ℕ → List ℕ → Verdict
-verdict s kind p seen xs marks = first (lentCases s seen xs marks (rangeCases s seen xs marks (taskCases s kind p seen)))
+verdict s kind p seen xs marks = first (lentCases s seen xs marks
+    (rangeCases s seen xs marks (taskCases s kind p seen)))

@@ -1,30 +1,17 @@
--- 01, "Numbers of refusal": "given exactly when", as tables of plain lines in the order in which they are tested. A line carries its own number.
--- Settings, task number and memory are any. The tests of the definitions are not cited. Theorems: `refusal-exact`, `no-other-number`,
--- `refused-changes-nothing`, `block-by-block`.
-use mathlib.Core.Path.{_≡_}
-use mathlib.Core.Logic.{_⊎_, _↔_}
-use mathlib.Core.Bool.{Bool, not}
-use mathlib.Core.List.{List, [], _∷_}
+-- 01, "Numbers of refusal": "given exactly when", as tables of plain lines in the order in which they are tested. A
+-- line carries its own number. Settings, task number and memory are any. The tests of the definitions are not cited.
+-- Theorems: `refusal-exact`, `no-other-number`, `refused-changes-nothing`, `block-by-block`.
+use mathlib.Core.{Path._≡_, Logic.{_⊎_, _↔_}, List.{List, [], _∷_}}
 use Prim.Native.Nat.{ℕ, _≤_, _<_}
-use lib.Dec.{T}
-use lib.ListN.{length}
-use Rattle.machine.specs.Settings.{width}
-use Rattle.counting.specs.Counting.{count}
-use Rattle.machine.specs.Memory.{Memory, markIndex, stateOf}
-use Rattle.machine.specs.Answers.{Said, said, numberOf, isAccepted}
-use Rattle.machine.specs.Calls.{call, setup}
+use lib.{Dec.T, ListN.length}
+use Rattle.machine.specs.{Settings.width, Memory.{Memory, markIndex, stateOf}}
+use Rattle.machine.specs.{Answers.{Said, said, numberOf, isAccepted}, Calls.{call, setup}}
 use Rattle.machine.specs.Ranges.{WithinLimits, NeedsMore, OutOfRangeAt, SomeOutOfRange, seeksOrHolds}
-use Rattle.machine.specs.declared.Settings.{Settings}
-use Rattle.machine.specs.declared.Point.{Point}
-use Rattle.machine.specs.declared.State.{State}
-use Rattle.machine.specs.declared.State.the-variants.{Idle, Seeking, Holding}
-use Rattle.machine.specs.declared.Kind.{Kind}
-use Rattle.machine.specs.declared.Kind.the-variants.{Ask, Turn, Release}
-use Rattle.machine.specs.declared.Event.{Event}
-use Rattle.machine.specs.declared.Row.{Row}
-use Rattle.machine.specs.declared.Row.the-variants.{Records, Xs, Marks}
-use Rattle.machine.specs.declared.Refusal.{Refusal}
-use Rattle.machine.specs.declared.Answer.{Answer}
+use Rattle.machine.specs.declared.{Settings.Settings, Point.Point}
+use Rattle.machine.specs.declared.State.{State, the-variants.{Idle, Seeking, Holding}}
+use Rattle.machine.specs.declared.{Kind.{Kind, the-variants.{Ask, Turn, Release}}, Event.Event}
+use Rattle.machine.specs.declared.{Row.{Row, the-variants.{Records, Xs, Marks}}, Refusal.Refusal, Answer.Answer}
+use Rattle.counting.specs.Counting.{count}
 
 -- ---- the form of every table
 
@@ -46,8 +33,8 @@ abbrev pub FirstHolds : List Line → ℕ → Type 0
 FirstHolds [] n = ⊥
 FirstHolds (this ∷ lines) n = (this .holds × (this .number ≡ n)) ⊎ ((this .holds → ⊥) × FirstHolds lines n)
 
--- 00: "It is refused exactly in the listed cases, by the first number in the listed order"; 01: a refusal "answers its number and nothing more,
--- except that 3 adds which row and the index"
+-- 00: "It is refused exactly in the listed cases, by the first number in the listed order"; 01: a refusal "answers its
+-- number and nothing more, except that 3 adds which row and the index"
 pub record RefusedExactly (says : Said) (lines : List Line) : Type 0 where
   pub refused : (n : ℕ) → 1 ≤ n → (says .number ≡ n) ↔ FirstHolds lines n
   pub accepted : (says .number ≡ 0) ↔ NoneHolds lines
@@ -66,7 +53,8 @@ NoOtherNumber = (says : Said) (lines : List Line) → RefusedExactly says lines 
 -- 2: a lent row is shorter than needed
 abbrev pub SomeRowShort : Settings → Memory → Type 0
 SomeRowShort s m =
-    NeedsMore s Records (length (m .records)) ⊎ (NeedsMore s Xs (length (m .xs)) ⊎ NeedsMore s Marks (length (m .marks)))
+    NeedsMore s Records (length (m .records))
+    ⊎ (NeedsMore s Xs (length (m .xs)) ⊎ NeedsMore s Marks (length (m .marks)))
 
 -- 6: ask when not idle; turn when not seeking; release when not holding
 abbrev pub NotTheMoment : Kind → State → Type 0
@@ -144,7 +132,8 @@ pub record CallRefused (s : Settings) (event : Event) (m : Memory) : Type 0 wher
 pub record RefusalExact : Type 0 where
   pub calls : (s : Settings) (event : Event) (m : Memory) → CallRefused s event m
   pub setups : (s : Settings) (m : Memory) → RefusedExactly (setupSays s m) (setupLines s m)
-  -- an answer is an acceptance exactly if it has no number of refusal, and a refusal's number is the one that its answer has
+  -- an answer is an acceptance exactly if it has no number of refusal, and a refusal's number is the one that its
+  -- answer has
   pub acceptance : (answer : Answer) → T (isAccepted answer) ↔ (said answer .number ≡ 0)
   pub numbered : (why : Refusal) → numberOf why ≡ said (Answer.Refused why) .number
 

@@ -1,22 +1,15 @@
--- 01, "Rules of the grid", line by line and mode by mode, as what an accepted call answers and leaves. The definitions say both modes at once.
--- Theorems: `follows-the-rules`, what a line says of an accepted call is its outcome; `each-spoken-of`, the lines leave no accepted call out.
+-- 01, "Rules of the grid", line by line and mode by mode, as what an accepted call answers and leaves. The definitions
+-- say both modes at once. Theorems: `follows-the-rules`, what a line says of an accepted call is its outcome;
+-- `each-spoken-of`, the lines leave no accepted call out.
 use mathlib.Core.Path.{_≡_}
 use Prim.Native.Nat.{ℕ, _+_, _*_, _≤_, _<_}
 use lib.ListN.{getD}
-use Rattle.machine.specs.Places.{blockNumber}
-use Rattle.machine.specs.Records.{idle}
-use Rattle.machine.specs.Memory.{Memory, stateOf, withRecord, withX, withMark}
+use Rattle.machine.specs.{Places.blockNumber, Records.idle, Memory.{Memory, stateOf, withRecord, withX, withMark}}
 use Rattle.machine.specs.Calls.{Outcome, eventOf, nameAt, standing, call}
-use Rattle.machine.specs.declared.Settings.{Settings}
-use Rattle.machine.specs.declared.Direction.{Direction}
-use Rattle.machine.specs.declared.Direction.the-variants.{Right, Down}
-use Rattle.machine.specs.declared.Point.{Point}
-use Rattle.machine.specs.declared.Point.the-variants.{WriteX, Scan, WriteMark, ReadX, Clear}
-use Rattle.machine.specs.declared.State.{State}
-use Rattle.machine.specs.declared.State.the-variants.{Idle, Seeking, Holding}
-use Rattle.machine.specs.declared.Kind.{Kind}
-use Rattle.machine.specs.declared.Kind.the-variants.{Ask, Turn, Release}
-use Rattle.machine.specs.declared.Answer.{Answer}
+use Rattle.machine.specs.declared.{Settings.Settings, Direction.{Direction, the-variants.{Right, Down}}}
+use Rattle.machine.specs.declared.Point.{Point, the-variants.{WriteX, Scan, WriteMark, ReadX, Clear}}
+use Rattle.machine.specs.declared.State.{State, the-variants.{Idle, Seeking, Holding}}
+use Rattle.machine.specs.declared.{Kind.{Kind, the-variants.{Ask, Turn, Release}}, Answer.Answer}
 use Rattle.machine.specs.OneAccess.{AcceptedIn}
 
 -- ---- what the lines speak of
@@ -63,11 +56,14 @@ Moves s p r c Down m to = Arrives s p (r + 1) c m to
 
 -- what a line, under its conditions, says that a call of task p answers and leaves
 pub data Says (s : Settings) (p : ℕ) (m : Memory) : Kind → Outcome → Type 0 where
-  -- "Ask, for an idle task: it seeks at (0, 0), point write X. With k = 1 it holds (0, 0), name 0, at once. No register is touched."
+  -- "Ask, for an idle task: it seeks at (0, 0), point write X. With k = 1 it holds (0, 0), name 0, at once. No register
+  -- is touched."
   asks : {to : Outcome} → stateOf m p ≡ Idle → Arrives s p 0 0 m to → Says s p m Ask to
   -- "write X: the block's X becomes p+1; scan at 0."
-  write-x : {r c : ℕ} → SeeksAt s p m r c WriteX → Says s p m Turn (standsAt s p (Seeking r c (Scan 0)) (withX (blockNumber s r c) (p + 1) m))
-  -- "scan at h, mode 1: read mark h of the block. 1: clear, going right. 0: scan at h+1, or write mark if h+1 = N. The task's own mark is read too."
+  write-x : {r c : ℕ} → SeeksAt s p m r c WriteX
+      → Says s p m Turn (standsAt s p (Seeking r c (Scan 0)) (withX (blockNumber s r c) (p + 1) m))
+  -- "scan at h, mode 1: read mark h of the block. 1: clear, going right. 0: scan at h+1, or write mark if h+1 = N. The
+  -- task's own mark is read too."
   long-scan-marked : {r c h : ℕ} → s .mode ≡ 1 → SeeksAt s p m r c (Scan h) → h < s .n → longMark s m r c h ≡ 1
       → Says s p m Turn (standsAt s p (Seeking r c (Clear Right)) m)
   long-scan-next : {r c h : ℕ} → s .mode ≡ 1 → SeeksAt s p m r c (Scan h) → h + 1 < s .n → longMark s m r c h ≡ 0
@@ -75,7 +71,8 @@ pub data Says (s : Settings) (p : ℕ) (m : Memory) : Kind → Outcome → Type 
   long-scan-last : {r c h : ℕ} → s .mode ≡ 1 → SeeksAt s p m r c (Scan h) → h + 1 ≡ s .n → longMark s m r c h ≡ 0
       → Says s p m Turn (standsAt s p (Seeking r c WriteMark) m)
   -- "scan, mode 0: read the block's one mark. 1: move right. 0: write mark."
-  once-scan-marked : {r c : ℕ} {to : Outcome} → s .mode ≡ 0 → SeeksAt s p m r c (Scan 0) → oneMark s m r c ≡ 1 → Moves s p r c Right m to
+  once-scan-marked : {r c : ℕ} {to : Outcome} → s .mode ≡ 0 → SeeksAt s p m r c (Scan 0) → oneMark s m r c ≡ 1
+      → Moves s p r c Right m to
       → Says s p m Turn to
   once-scan-clear : {r c : ℕ} → s .mode ≡ 0 → SeeksAt s p m r c (Scan 0) → oneMark s m r c ≡ 0
       → Says s p m Turn (standsAt s p (Seeking r c WriteMark) m)
@@ -85,18 +82,22 @@ pub data Says (s : Settings) (p : ℕ) (m : Memory) : Kind → Outcome → Type 
   once-write-mark : {r c : ℕ} → s .mode ≡ 0 → SeeksAt s p m r c WriteMark
       → Says s p m Turn (standsAt s p (Seeking r c ReadX) (withMark (blockNumber s r c) 1 m))
   -- "read X: if it is p+1, hold (r, c). Else mode 1: clear, going down; mode 0: move down."
-  read-x-own : {r c : ℕ} → SeeksAt s p m r c ReadX → xOf s m r c ≡ p + 1 → Says s p m Turn (standsAt s p (Holding r c) m)
+  read-x-own : {r c : ℕ} → SeeksAt s p m r c ReadX → xOf s m r c ≡ p + 1
+      → Says s p m Turn (standsAt s p (Holding r c) m)
   long-read-x-other : {r c : ℕ} → s .mode ≡ 1 → SeeksAt s p m r c ReadX → (xOf s m r c ≡ p + 1 → ⊥)
       → Says s p m Turn (standsAt s p (Seeking r c (Clear Down)) m)
-  once-read-x-other : {r c : ℕ} {to : Outcome} → s .mode ≡ 0 → SeeksAt s p m r c ReadX → (xOf s m r c ≡ p + 1 → ⊥) → Moves s p r c Down m to
+  once-read-x-other : {r c : ℕ} {to : Outcome} → s .mode ≡ 0 → SeeksAt s p m r c ReadX → (xOf s m r c ≡ p + 1 → ⊥)
+      → Moves s p r c Down m to
       → Says s p m Turn to
   -- "clear: own mark becomes 0, also when going right; then move."
   clear : {r c : ℕ} {direction : Direction} {to : Outcome} → s .mode ≡ 1 → SeeksAt s p m r c (Clear direction)
       → Moves s p r c direction (withMark (markOf s r c p) 0 m) to → Says s p m Turn to
-  -- "Release, mode 1, for a holding task: if r+c ≤ k-2 its own mark in that block becomes 0; otherwise no access. It is idle. X is never reset."
+  -- "Release, mode 1, for a holding task: if r+c ≤ k-2 its own mark in that block becomes 0; otherwise no access. It is
+  -- idle. X is never reset."
   release-block : {r c : ℕ} → s .mode ≡ 1 → stateOf m p ≡ Holding r c → r + c + 2 ≤ s .k
       → Says s p m Release (freesAt s p r c (withMark (markOf s r c p) 0 m))
-  release-edge : {r c : ℕ} → s .mode ≡ 1 → stateOf m p ≡ Holding r c → r + c + 1 ≡ s .k → Says s p m Release (freesAt s p r c m)
+  release-edge : {r c : ℕ} → s .mode ≡ 1 → stateOf m p ≡ Holding r c → r + c + 1 ≡ s .k
+      → Says s p m Release (freesAt s p r c m)
 
 -- ---- the statements
 

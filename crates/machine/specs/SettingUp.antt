@@ -1,15 +1,9 @@
 -- 01, "Rules of the grid": "Setup makes the N records idle, all X 0 and all marks 0." It "answers that it is done".
 -- Theorem: `setup-clears`.
-use mathlib.Core.Path.{_≡_}
-use mathlib.Core.Logic.{_↔_}
+use mathlib.Core.{Path._≡_, Logic._↔_}
 use lib.ListN.{replicate}
-use Rattle.machine.specs.Places.{blocks}
-use Rattle.machine.specs.Records.{idle}
-use Rattle.machine.specs.Memory.{Memory, marksNeeded}
-use Rattle.machine.specs.Calls.{setup}
-use Rattle.machine.specs.declared.Settings.{Settings}
-use Rattle.machine.specs.declared.Answer.{Answer}
-use Rattle.machine.specs.Refusing.{NoneHolds, setupLines}
+use Rattle.machine.specs.{Places.blocks, Records.idle, Memory.{Memory, marksNeeded}, Calls.setup}
+use Rattle.machine.specs.{declared.{Settings.Settings, Answer.Answer}, Refusing.{NoneHolds, setupLines}}
 use Rattle.machine.specs.Surplus.{needed}
 
 -- N records idle, all X 0 and all marks 0

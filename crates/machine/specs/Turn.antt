@@ -1,25 +1,16 @@
--- 01, "Rules of the grid", over Figures 4 and 5 of source 001. A call looks at the task's record alone to learn which register it touches, makes
--- that one access, and hands the value read to the record: `next` sees no memory, and `store` changes one element at the most.
--- Statement numbers in brackets: [4.n] of Figure 4, mode 0; [5.n] of Figure 5, mode 1.
+-- 01, "Rules of the grid", over Figures 4 and 5 of source 001. A call looks at the task's record alone to learn which
+-- register it touches, makes that one access, and hands the value read to the record: `next` sees no memory, and
+-- `store` changes one element at the most. Statement numbers in brackets: [4.n] of Figure 4, mode 0; [5.n] of Figure 5,
+-- mode 1.
 use mathlib.Core.Bool.{cond}
 use Prim.Native.Nat.{ℕ, _+_}
-use lib.Dec.{eqb, leb}
-use lib.ListN.{getD}
-use Rattle.machine.specs.Settings.{width, own}
-use Rattle.machine.specs.Places.{blockNumber}
-use Rattle.machine.specs.Memory.{Memory, markIndex, withX, withMark}
-use Rattle.machine.specs.declared.Settings.{Settings}
-use Rattle.machine.specs.declared.Direction.{Direction}
-use Rattle.machine.specs.declared.Direction.the-variants.{Right, Down}
-use Rattle.machine.specs.declared.Point.{Point}
-use Rattle.machine.specs.declared.Point.the-variants.{WriteX, Scan, WriteMark, ReadX, Clear}
-use Rattle.machine.specs.declared.State.{State}
-use Rattle.machine.specs.declared.State.the-variants.{Idle, Seeking, Holding}
-use Rattle.machine.specs.declared.Record.{Record}
-use Rattle.machine.specs.declared.Access.{Access}
-use Rattle.machine.specs.declared.Access.the-variants.{NoAccess, XRead, XWritten, MarkRead, MarkWritten}
-use Rattle.machine.specs.declared.Kind.{Kind}
-use Rattle.machine.specs.declared.Kind.the-variants.{Ask, Turn, Release}
+use lib.{Dec.{eqb, leb}, ListN.getD}
+use Rattle.machine.specs.{Settings.{width, own}, Places.blockNumber, Memory.{Memory, markIndex, withX, withMark}}
+use Rattle.machine.specs.declared.{Settings.Settings, Direction.{Direction, the-variants.{Right, Down}}}
+use Rattle.machine.specs.declared.Point.{Point, the-variants.{WriteX, Scan, WriteMark, ReadX, Clear}}
+use Rattle.machine.specs.declared.{State.{State, the-variants.{Idle, Seeking, Holding}}, Record.Record}
+use Rattle.machine.specs.declared.Access.{Access, the-variants.{NoAccess, XRead, XWritten, MarkRead, MarkWritten}}
+use Rattle.machine.specs.declared.Kind.{Kind, the-variants.{Ask, Turn, Release}}
 
 -- ---- which register a call touches
 
@@ -85,7 +76,8 @@ leave s r c direction = cond (eqb (s .mode) 0) (move s r c direction) (Seeking r
 abbrev pub pointTurned : Settings → ℕ → ℕ → ℕ → Point → ℕ → State
 pointTurned s p r c WriteX v = Seeking r c (Scan 0)
 pointTurned s p r c (Scan h) v =
-    cond (eqb v 1) (leave s r c Right) (cond (eqb (h + 1) (width s)) (Seeking r c WriteMark) (Seeking r c (Scan (h + 1))))
+    cond (eqb v 1) (leave s r c Right) (cond (eqb (h + 1) (width s)) (Seeking r c WriteMark)
+    (Seeking r c (Scan (h + 1))))
 pointTurned s p r c WriteMark v = Seeking r c ReadX
 pointTurned s p r c ReadX v = cond (eqb v (p + 1)) (Holding r c) (leave s r c Down)
 pointTurned s p r c (Clear direction) v = move s r c direction

@@ -1,36 +1,23 @@
--- The table of 01's starred edges, proved: the runs with fixed N and k by computing them, the open ones from what an accepted setup leaves.
-use mathlib.Core.Path.{_≡_, refl, _∙_}
-use mathlib.Core.Logic.{_⊎_, inl, inr}
-use mathlib.Core.Bool.{Bool, true, false, cond, _&&_}
-use mathlib.Core.List.{[]}
+-- The table of 01's starred edges, proved: the runs with fixed N and k by computing them, the open ones from what an
+-- accepted setup leaves.
+use mathlib.Core.{Path.{_≡_, refl, _∙_}, Logic.{_⊎_, inl, inr}, Bool.{Bool, true, false, cond, _&&_}}
 use Prim.Native.Nat.{ℕ, _<_}
 use native.Mathlib.Omega.{arith}
 use lib.Dec.{T, eqb}
 use borrow.Author.Tests.{le-leb, lt-leb}
 use Rattle.grid.specs.Triangle.{half, placeNumber}
-use Rattle.counting.specs.Counting.{count, firstBad}
-use Rattle.machine.specs.Memory.{Memory}
-use Rattle.machine.specs.Turn.{arrive}
-use Rattle.machine.specs.Answers.{isAccepted}
-use Rattle.machine.specs.Calls.{call, setup, verdictOf, standing, ask, release}
-use Rattle.text.specs.Decimal.{decimal}
-use Rattle.machine.specs.Ranges.{WithinLimits}
-use Rattle.machine.specs.Refusing.{NoneHolds, lentLines, rangeLines}
-use Rattle.machine.specs.Demands.{SetUp}
-use Rattle.printed.specs.Edges.{FiveNames, NoTurns, LoneTask, TheOtherTask, TheListing, TwoOut, LastIdentifier, NoRelease, NoReleaseIdle, settings, Refuses, SetupsTaken, OutsideRefused, Edges}
-use Rattle.machine.specs.declared.Settings.{Settings}
-use Rattle.machine.specs.declared.State.{State}
-use Rattle.machine.specs.declared.State.the-variants.{Idle, Seeking, Holding}
-use Rattle.machine.specs.declared.Verdict.{Verdict}
-use Rattle.machine.specs.declared.Row.the-variants.{Records, Xs, Marks}
-use Rattle.counting.proofs.Tested.{misses}
-use Rattle.machine.proofs.Limits.{zero-or-one, limits-tested, mode-most}
-use Rattle.machine.proofs.Passing.{fits}
-use Rattle.machine.proofs.Refusing.{within}
-use Rattle.machine.proofs.Exact.{setup-takes-largest}
-use Rattle.machine.proofs.Fresh.{setup-within, fresh-idle, fresh-none-out, fresh-fit}
-use Rattle.printed.proofs.OneTimePair.{one-time-pair}
+use Rattle.counting.{specs.Counting.{count, firstBad}, proofs.Tested.misses}
+use Rattle.machine.specs.{Memory.Memory, Turn.arrive, Answers.isAccepted}
+use Rattle.machine.specs.{Calls.{call, setup, verdictOf, standing, ask, release}, Ranges.WithinLimits, Demands.SetUp}
+use Rattle.machine.specs.declared.{Settings.Settings, State.{State, the-variants.{Idle, Seeking, Holding}}}
+use Rattle.machine.specs.declared.{Verdict.Verdict, Row.the-variants.{Records, Xs, Marks}}
+use Rattle.machine.proofs.{Limits.{zero-or-one, limits-tested, mode-most}, Passing.fits, Refusing.within}
+use Rattle.machine.proofs.{Exact.setup-takes-largest, Fresh.{setup-within, fresh-idle, fresh-none-out, fresh-fit}}
 use Rattle.machine.proofs.Passed.{Fit, fit-verdict}
+use Rattle.text.specs.Decimal.{decimal}
+use Rattle.printed.specs.Edges.{FiveNames, NoTurns, LoneTask, TheOtherTask, TheListing, TwoOut, LastIdentifier}
+use Rattle.printed.specs.Edges.{NoRelease, NoReleaseIdle, settings, Refuses, SetupsTaken, OutsideRefused, Edges}
+use Rattle.printed.proofs.OneTimePair.{one-time-pair}
 
 five-names : FiveNames
 unfolding half placeNumber
@@ -60,7 +47,8 @@ two-out = (
 )
 
 -- an ask of a task below N, right after setup, is accepted
-fresh-ask : (s : Settings) (lent : Memory) → SetUp s lent → (p : ℕ) → p < s .n → verdictOf s (ask p) (setup s lent .memory) ≡ Verdict.Accepted
+fresh-ask : (s : Settings) (lent : Memory) → SetUp s lent → (p : ℕ) → p < s .n
+    → verdictOf s (ask p) (setup s lent .memory) ≡ Verdict.Accepted
 fresh-ask s lent ok p l =
     let k-least = setup-within s lent ok .k-least in
     fit-verdict s (setup s lent .memory) (ask p) (setup-within s lent ok) (fresh-fit s lent ok)
@@ -79,7 +67,11 @@ no-turns s lent ok one p l = (
 
 last-identifier : LastIdentifier
 last-identifier s lent ok all = (
-  rw (fit-verdict s (setup s lent .memory) (ask 256) (setup-within s lent ok) (fresh-fit s lent ok), le-leb (s .n) 256 (omega arith)),
+  rw (
+    fit-verdict s (setup s lent .memory) (ask 256) (setup-within s lent ok) (fresh-fit s lent ok),
+    le-leb (s .n) 256
+        (omega arith),
+  ),
   rw (fresh-ask s lent ok 255 (omega arith)) (standing-accepted s (arrive s 0 0)),
 )
   where
@@ -98,7 +90,8 @@ no-release s m one-time (fair, (long, (records, (xs, (marks, last))))) =
     one-time-release s m one-time l (fits s l m long (elim [ Records ↦ records | Xs ↦ xs | Marks ↦ marks ]))
 
 no-release-idle : NoReleaseIdle
-no-release-idle s lent ok one-time = one-time-release s (setup s lent .memory) one-time (setup-within s lent ok) (fresh-fit s lent ok)
+no-release-idle s lent ok one-time = one-time-release s (setup s lent .memory) one-time (setup-within s lent ok)
+    (fresh-fit s lent ok)
 
 -- ---- the edges of the limits
 

@@ -1,44 +1,31 @@
--- The listing's numbers are the history's own counts: the memory that a run stands at is that of the history, its list of turns has each task's
--- turns since its last accepted ask, and each maximum that it keeps is the greatest of the positions so far.
-use mathlib.Core.Path.{_≡_, refl, sym, ap, _∙_}
-use mathlib.Core.Logic.{_⊎_, inl, inr}
-use mathlib.Core.Bool.{Bool, true, false, not, cond, _&&_, _||_}
-use mathlib.Core.List.{List, [], _∷_, _++_}
+-- The listing's numbers are the history's own counts: the memory that a run stands at is that of the history, its list
+-- of turns has each task's turns since its last accepted ask, and each maximum that it keeps is the greatest of the
+-- positions so far.
+use mathlib.Core.{Path.{_≡_, refl, sym, ap, _∙_}, Logic.{_⊎_, inl, inr}}
+use mathlib.Core.{Bool.{Bool, true, false, not, cond, _&&_, _||_}, List.{List, [], _∷_, _++_}}
 use Prim.Native.Nat.{ℕ, zero, suc, _≤_, _<_, max}
-use native.Mathlib.Nat.{le-refl, max-zero}
-use native.Mathlib.Omega.{arith}
-use lib.Dec.{T, eqb, ltb, eqb→eq}
-use lib.ListN.{length, getD, set, length-set, length-replicate, getD-replicate}
+use native.Mathlib.{Nat.{le-refl, max-zero}, Omega.arith}
+use lib.{Dec.{T, eqb, ltb, eqb→eq}, ListN.{length, getD, set, length-set, length-replicate, getD-replicate}}
 use lib.Seq.{getD-set-same, getD-set-other}
 use borrow.Author.Tests.{eqb-true, eqb-false, lt-ltb, le-ltb}
-use Rattle.machine.specs.Records.{isHolding}
-use Rattle.counting.specs.Counting.{tick, count, anyBelow}
-use Rattle.machine.specs.Memory.{Memory, stateOf, largest}
-use Rattle.machine.specs.Answers.{isAccepted}
-use Rattle.machine.specs.Calls.{Outcome, nameAt, answerOf, call, setup}
-use Rattle.machine.specs.Calls as calls
-use Rattle.machine.specs.History.{Answered, counted, turnsOf}
-use Rattle.file.specs.File.{codeAt, taskAt, eventAt}
-use Rattle.printed.specs.Listing.{Progress, turnsAfter, completed, progress, listingBy, holdersOf}
+use Rattle.machine.specs.{Records.isHolding, Memory.{Memory, stateOf, largest}, Answers.isAccepted}
+use Rattle.machine.specs.{Calls.{Outcome, nameAt, answerOf, call, setup}, History.{Answered, counted, turnsOf}}
 use Rattle.machine.specs.Demands.{memoryAfter, historyOf, used, HoldsSome, bound}
-use Rattle.printed.specs.EndLine.{eventsOf, memoryAt, holdersAt, answerAt, Completes, takenAt, turnsSince, turnsAt, linesOf, Attained, NoneCounts, Greatest, EndLineCounted, EndCountsOne, UsedCounted, MostWithinBound}
-use Rattle.machine.specs.declared.Settings.{Settings}
-use Rattle.machine.specs.declared.Name.{Name}
-use Rattle.machine.specs.declared.State.{State}
-use Rattle.machine.specs.declared.State.the-variants.{Idle, Seeking, Holding}
-use Rattle.machine.specs.declared.Kind.{Kind}
-use Rattle.machine.specs.declared.Kind.the-variants.{Ask, Turn, Release}
-use Rattle.machine.specs.declared.Event.{Event}
-use Rattle.machine.specs.declared.Answer.{Answer}
+use Rattle.machine.specs.declared.{Settings.Settings, Name.Name, State.{State, the-variants.{Idle, Seeking, Holding}}}
+use Rattle.machine.specs.declared.{Kind.{Kind, the-variants.{Ask, Turn, Release}}, Event.Event, Answer.Answer}
 use Rattle.machine.specs.declared.Opening.{Opening}
 use Rattle.machine.specs.OneAccess.{AcceptedIn}
-use Rattle.counting.proofs.Searching.{count-same, count-none}
-use Rattle.machine.proofs.Passing.{passed, by-the-rules}
-use Rattle.machine.proofs.Effects.{only-the-register-written-changes}
-use Rattle.machine.proofs.Histories.{run-append, history-append}
-use Rattle.machine.proofs.Served.{turns-append}
+use Rattle.machine.proofs.{Passing.{passed, by-the-rules}, Effects.only-the-register-written-changes}
+use Rattle.machine.proofs.{Histories.{run-append, history-append}, Served.turns-append}
 use Rattle.machine.proofs.Demand3.{served-within, setup-takes}
+use Rattle.counting.{specs.Counting.{tick, count, anyBelow}, proofs.Searching.{count-same, count-none}}
+use Rattle.file.specs.File.{codeAt, taskAt, eventAt}
+use Rattle.printed.specs.Listing.{Progress, turnsAfter, completed, progress, listingBy, holdersOf}
+use Rattle.printed.specs.EndLine.{eventsOf, memoryAt, holdersAt, answerAt, Completes, takenAt, turnsSince}
+use Rattle.printed.specs.EndLine.{turnsAt, linesOf, Attained, NoneCounts, Greatest, EndLineCounted, EndCountsOne}
+use Rattle.printed.specs.EndLine.{UsedCounted, MostWithinBound}
 use Rattle.printed.proofs.Greatest.{none-yet, one-skipped, one-counted, greatest-one}
+use Rattle.machine.specs.Calls as calls
 
 -- ---- counted since
 
@@ -61,7 +48,8 @@ module _ (asked turned : ℕ → Bool) where
       go true = refl
       go false = refl
 
-  earlier-turn : (n i : ℕ) → i < n → turned i && not (later (suc n) i) ≡ cond (asked n) false (turned i && not (later n i))
+  earlier-turn : (n i : ℕ) → i < n → turned i && not (later (suc n) i) ≡ cond (asked n) false
+      (turned i && not (later n i))
   earlier-turn n i l = rw (lt-ltb i n l) (go (turned i) (later n i) (asked n))
     where
       go : (turn before now : Bool) → turn && not (before || now) ≡ cond now false (turn && not before)
@@ -75,7 +63,8 @@ module _ (asked turned : ℕ → Bool) where
   earlier-turns : (n : ℕ) → count (λ i. turned i && not (later (suc n) i)) n ≡ cond (asked n) 0 (since n)
   earlier-turns n = go (asked n) (earlier-turn n)
     where
-      go : (b : Bool) → ((i : ℕ) → i < n → turned i && not (later (suc n) i) ≡ cond b false (turned i && not (later n i)))
+      go : (b : Bool) → ((i : ℕ) → i < n → turned i && not (later (suc n) i) ≡ cond b false
+          (turned i && not (later n i)))
           → count (λ i. turned i && not (later (suc n) i)) n ≡ cond b 0 (since n)
       go true each = count-none (λ i. turned i && not (later (suc n) i)) n each
       go false each = count-same (λ i. turned i && not (later (suc n) i)) (λ i. turned i && not (later n i)) n each
@@ -95,7 +84,8 @@ abbrev ticked : ℕ → Event → Answer → ℕ → ℕ
 ticked p event answer turns = cond (isAccepted answer && eqb (event .task .0) p) (counted (event .kind) turns) turns
 
 used-more : (s : Settings) (lent : Memory) (events : List Event) (event : Event) (p : ℕ)
-    → used s lent (events ++ (event ∷ [])) p ≡ ticked p event (call s event (memoryAfter s lent events) .answer) (used s lent events p)
+    → used s lent (events ++ (event ∷ [])) p ≡ ticked p event (call s event (memoryAfter s lent events) .answer)
+    (used s lent events p)
 used-more s lent events event p =
     ap (λ (h : List Answered). turnsOf p h 0) (history-append s events (event ∷ []) (setup s lent .memory))
     ∙ turns-append p (historyOf s lent events) _ 0
@@ -116,8 +106,10 @@ used-counted s file zero p = sym (since-none (takenAt s file Ask p) (takenAt s f
 used-counted s file (suc n) p =
     used-more s largest (eventsOf file n) (eventAt file n) p
     ∙ ap (ticked p (eventAt file n) (answerAt s file n)) (used-counted s file n p)
-    ∙ ticked-by-code (isAccepted (answerAt s file n)) (eqb (taskAt file n .0) p) (eqb (codeAt file n) 0) (eqb (codeAt file n) 1)
-    (turnsSince s file n p) (λ a b. let z = eqb→eq (codeAt file n) 0 a in let y = eqb→eq (codeAt file n) 1 b in omega arith)
+    ∙ ticked-by-code (isAccepted (answerAt s file n)) (eqb (taskAt file n .0) p) (eqb (codeAt file n) 0)
+    (eqb (codeAt file n) 1)
+    (turnsSince s file n p) (λ a b. let z = eqb→eq (codeAt file n) 0 a in let y = eqb→eq (codeAt file n) 1 b in
+    omega arith)
     ∙ sym (since-more (takenAt s file Ask p) (takenAt s file Turn p) n)
 
 -- the list of turns ticks at the task of an accepted call, and keeps its length
@@ -128,11 +120,13 @@ module _ (event : Event) (answer : Answer) (turns : List ℕ) where
   abbrev new : ℕ
   new = counted (event .kind) (getD turns its 0)
 
-  turns-ticked : (p : ℕ) → p < length turns → getD (turnsAfter event answer turns) p 0 ≡ ticked p event answer (getD turns p 0)
+  turns-ticked : (p : ℕ) → p < length turns
+      → getD (turnsAfter event answer turns) p 0 ≡ ticked p event answer (getD turns p 0)
   turns-ticked p l = go (isAccepted answer) (eqb its p) refl
     where
       go : (taken same : Bool) → eqb its p ≡ same
-          → getD (cond taken (set turns its new) turns) p 0 ≡ cond (taken && same) (counted (event .kind) (getD turns p 0)) (getD turns p 0)
+          → getD (cond taken (set turns its new) turns) p 0 ≡ cond (taken && same)
+          (counted (event .kind) (getD turns p 0)) (getD turns p 0)
       go true true e = let z = eqb-true its p e in rw (sym z) (getD-set-same turns its new 0 (rw z l))
       go true false e = getD-set-other turns its p new 0 (λ f. eqb-false its p e (sym f))
       go false same e = refl
@@ -203,14 +197,17 @@ module _ (s : Settings) (file : List ℕ) where
       let low = accepted .may .known in
       omega arith
 
-  completed-turns : (n : ℕ) → Completes s file n → getD (standing (suc n) .turns) (taskAt file n .0) 0 ≡ turnsAt s file n
-  completed-turns n c = turns-kept (taskAt file n .0) (completing-task n c) (suc n) ∙ used-counted s file (suc n) (taskAt file n .0)
+  completed-turns : (n : ℕ) → Completes s file n
+      → getD (standing (suc n) .turns) (taskAt file n .0) 0 ≡ turnsAt s file n
+  completed-turns n c = turns-kept (taskAt file n .0) (completing-task n c) (suc n)
+      ∙ used-counted s file (suc n) (taskAt file n .0)
 
   abbrev TurnsMost : ℕ → ℕ → Type 0
   TurnsMost n a = Greatest n (Completes s file) (turnsAt s file) a
 
   -- an answer other than "holds" completes nothing, and 0 is added to what MOST is the greatest of
-  not-completed : (n a : ℕ) (answer : Answer) → answerAt s file n ≡ answer → completed answer 1 ≡ 0 → TurnsMost n a → TurnsMost (suc n) (max a 0)
+  not-completed : (n a : ℕ) (answer : Answer) → answerAt s file n ≡ answer → completed answer 1 ≡ 0 → TurnsMost n a
+      → TurnsMost (suc n) (max a 0)
   not-completed n a answer e none g =
       rw (max-zero a) (one-skipped (Completes s file) (turnsAt s file)
       (λ c. let one = ap (λ (other : Answer). completed other 1) (sym e ∙ c .1) in omega arith) g)
@@ -240,18 +237,21 @@ module _ (s : Settings) (name : Name) where
   standing-held (Seeking r c point) e = absurd (not-held Answer.Seeks refl e)
   standing-held (Holding r c) e = tt
 
-  answer-held : (kind : Kind) (before after : State) → answerOf s kind before after ≡ Answer.Holds name → T (isHolding after)
+  answer-held : (kind : Kind) (before after : State) → answerOf s kind before after ≡ Answer.Holds name
+      → T (isHolding after)
   answer-held Ask before after e = standing-held after e
   answer-held Turn before after e = standing-held after e
   answer-held Release Idle after e = absurd (not-held Answer.Seeks refl e)
   answer-held Release (Seeking r c point) after e = absurd (not-held Answer.Seeks refl e)
   answer-held Release (Holding r c) after e = absurd (not-held (Answer.Freed (nameAt s r c)) refl e)
 
-  held-after : (event : Event) (m : Memory) → call s event m .answer ≡ Answer.Holds name → HoldsSome (call s event m .memory) (event .task .0)
+  held-after : (event : Event) (m : Memory) → call s event m .answer ≡ Answer.Holds name
+      → HoldsSome (call s event m .memory) (event .task .0)
   held-after event m e =
       let accepted : AcceptedIn s event m = rw e tt in
       rw (only-the-register-written-changes s event m accepted .own)
-      (answer-held (event .kind) (stateOf m (event .task .0)) _ (sym (ap (λ (o : Outcome). o .answer) (by-the-rules s event m accepted)) ∙ e))
+      (answer-held (event .kind) (stateOf m (event .task .0)) _
+      (sym (ap (λ (o : Outcome). o .answer) (by-the-rules s event m accepted)) ∙ e))
 
 -- an acquisition that is completed took no more turns than demand 3 allows
 completed-within : (s : Settings) (file : List ℕ) (i : ℕ) → Completes s file i → turnsAt s file i ≤ bound s
@@ -259,9 +259,11 @@ completed-within s file i (name, e) =
     let p : ℕ = taskAt file i .0 in
     let tests = passed s (eventAt file i) (memoryAt s file i) (rw e tt) in
     let holds : HoldsSome (memoryAt s file (suc i)) p =
-    rw (run-append s (eventsOf file i) (eventAt file i ∷ []) (setup s largest .memory)) (held-after s name (eventAt file i) (memoryAt s file i) e) in
+    rw (run-append s (eventsOf file i) (eventAt file i ∷ []) (setup s largest .memory))
+    (held-after s name (eventAt file i) (memoryAt s file i) e) in
     rw (sym (used-counted s file (suc i) p))
-    (served-within s largest (eventsOf file (suc i)) (setup-takes s (tests .limits)) p (tests .may .known) .holding holds)
+    (served-within s largest (eventsOf file (suc i)) (setup-takes s (tests .limits)) p
+    (tests .may .known) .holding holds)
 
 -- ---- the theorems
 
@@ -284,6 +286,7 @@ end-counts-one s file n holders peak most holders′ peak′ most′ c d = (
 pub most-within-bound : MostWithinBound
 most-within-bound s file n holders peak most counts = go (counts .of-completed .reached)
   where
-    go : Attained n (Completes s file) (turnsAt s file) most ⊎ (NoneCounts n (Completes s file) × (most ≡ 0)) → most ≤ bound s
+    go : Attained n (Completes s file) (turnsAt s file) most ⊎ (NoneCounts n (Completes s file) × (most ≡ 0))
+        → most ≤ bound s
     go (inl (i, l, c, e)) = rw (sym e) (completed-within s file i c)
     go (inr (none, e)) = omega arith

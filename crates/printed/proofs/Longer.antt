@@ -1,34 +1,32 @@
--- Input longer than any file is refused by its header and its length alone. So a part of it that is longer than any file has the same listing.
-use mathlib.Core.Path.{_≡_, refl, sym, ap, _∙_}
-use mathlib.Core.Bool.{Bool, true, false, not, cond}
-use mathlib.Core.List.{List, [], _∷_}
+-- Input longer than any file is refused by its header and its length alone. So a part of it that is longer than any
+-- file has the same listing.
+use mathlib.Core.{Path.{_≡_, refl, sym, ap, _∙_}, Bool.{Bool, true, false, not, cond}, List.{List, [], _∷_}}
 use Prim.Native.Nat.{ℕ, _≤_, _<_}
 use native.Mathlib.Omega.{arith}
-use lib.Dec.{eqb, ltb}
-use lib.ListN.{length, take}
-use lib.Seq.{getD-take, length-take-le, take-all}
-use borrow.Author.Needs.{needs}
-use borrow.Author.Tests.{le-ltb, ltb-true, ltb-false, ne-eqb}
-use Rattle.machine.specs.Refusals.{Case, when, first, outsideLimits}
-use Rattle.machine.specs.Answers.{numberOf}
-use Rattle.counting.specs.Counting.{anyBelow}
-use Rattle.file.specs.File.{mostEvents, fileLength, byteAt, lettersRight, versionOf, settingsOf, countOf, codeBad, openVerdict, openingBy}
-use Rattle.printed.specs.Listing.{refusedLine, listingBy, listing}
+use lib.{Dec.{eqb, ltb}, ListN.{length, take}, Seq.{getD-take, length-take-le, take-all}}
+use borrow.Author.{Needs.needs, Tests.{le-ltb, ltb-true, ltb-false, ne-eqb}}
+use Rattle.machine.specs.{Refusals.{Case, when, first, outsideLimits}, Answers.numberOf}
 use Rattle.machine.specs.declared.Refusal.{Refusal}
 use Rattle.machine.specs.declared.Refusal.the-variants.{Limits, FileLength, Letters, Version, TooManyEvents, EventCode}
-use Rattle.machine.specs.declared.Verdict.{Verdict}
-use Rattle.machine.specs.declared.Verdict.the-variants.{Refused}
+use Rattle.machine.specs.declared.Verdict.{Verdict, the-variants.Refused}
+use Rattle.counting.specs.Counting.{anyBelow}
+use Rattle.file.specs.File.{mostEvents, fileLength, byteAt, lettersRight, versionOf, settingsOf, countOf, codeBad}
+use Rattle.file.specs.File.{openVerdict, openingBy}
+use Rattle.printed.specs.Listing.{refusedLine, listingBy, listing}
 
 -- why such a file is refused, by opening's tests on its header
 abbrev whyBy : Bool → Bool → Bool → Bool → Refusal
-whyBy letters version limits many = cond letters Letters (cond version Version (cond limits Limits (cond many TooManyEvents FileLength)))
+whyBy letters version limits many = cond letters Letters
+    (cond version Version (cond limits Limits (cond many TooManyEvents FileLength)))
 
 abbrev why : List ℕ → Refusal
 why file =
-    whyBy (not (lettersRight file)) (not (eqb (versionOf file) 1)) (outsideLimits (settingsOf file)) (ltb mostEvents (countOf file))
+    whyBy (not (lettersRight file)) (not (eqb (versionOf file) 1)) (outsideLimits (settingsOf file))
+    (ltb mostEvents (countOf file))
 
 first-of-tests : (letters version limits many wrong : Bool) (rest : List Case) → (many ≡ false → wrong ≡ true)
-    → first (when letters Letters ∷ when version Version ∷ when limits Limits ∷ when many TooManyEvents ∷ when wrong FileLength ∷ rest)
+    → first (when letters Letters ∷ when version Version ∷ when limits Limits ∷ when many TooManyEvents ∷ when wrong
+    FileLength ∷ rest)
     ≡ Refused (whyBy letters version limits many)
 first-of-tests true version limits many wrong rest w = refl
 first-of-tests false true limits many wrong rest w = refl
@@ -43,7 +41,8 @@ length-wrong file long few =
     let most = ltb-false mostEvents (countOf file) few in
     ap not (ne-eqb (length file) (fileLength (countOf file)) (λ e. omega arith))
 
-longer-refused : (file : List ℕ) → fileLength mostEvents < length file → listing file ≡ refusedLine (numberOf (why file))
+longer-refused : (file : List ℕ) → fileLength mostEvents < length file
+    → listing file ≡ refusedLine (numberOf (why file))
 longer-refused file long =
     let header : 11 ≤ length file = omega arith in
     let letters = not (lettersRight file) in
@@ -57,7 +56,8 @@ longer-refused file long =
 -- the header of a part that is long enough is the header of the whole
 why-same : (whole : List ℕ) (most : ℕ) → fileLength mostEvents < most → why (take most whole) ≡ why whole
 why-same whole most long =
-    let same : (i : ℕ) → i < 11 → byteAt (take most whole) i ≡ byteAt whole i = λ i l. getD-take most whole i 0 (omega arith) in
+    let same : (i : ℕ) → i < 11 → byteAt (take most whole) i ≡ byteAt whole i =
+    λ i l. getD-take most whole i 0 (omega arith) in
     search (needs, same)
 
 -- as much of the input as such a buffer holds has the listing of the whole
@@ -71,5 +71,6 @@ part-listed whole most long = go (ltb (length whole) most) refl
         let same : length (take most whole) ≡ most = length-take-le most whole l in
         let part : fileLength mostEvents < length (take most whole) = omega arith in
         let all : fileLength mostEvents < length whole = omega arith in
-        let line : refusedLine (numberOf (why (take most whole))) ≡ refusedLine (numberOf (why whole)) = rw (why-same whole most long) in
+        let line : refusedLine (numberOf (why (take most whole))) ≡ refusedLine (numberOf (why whole)) =
+        rw (why-same whole most long) in
         longer-refused (take most whole) part ∙ line ∙ sym (longer-refused whole all)

@@ -1,36 +1,25 @@
--- 01's edge "Mode 0, k = 2: first task name 0 in 4 turns, a later one name 1 in 2", followed call by call for every N and every two tasks.
-use mathlib.Core.Path.{_≡_, refl, sym, ap, subst, _∙_}
-use mathlib.Core.List.{List, [], _∷_, _++_}
+-- 01's edge "Mode 0, k = 2: first task name 0 in 4 turns, a later one name 1 in 2", followed call by call for every N
+-- and every two tasks.
+use mathlib.Core.{Path.{_≡_, refl, sym, ap, subst, _∙_}, List.{List, [], _∷_, _++_}}
 use Prim.Native.Nat.{ℕ, suc, _+_, _≤_, _<_}
 use native.Mathlib.Omega.{arith}
-use lib.Dec.{T}
-use lib.ListN.{getD, set}
-use Rattle.machine.specs.Settings.{width, own}
-use Rattle.grid.specs.Triangle.{half, placeNumber}
-use Rattle.machine.specs.Places.{blockNumber, nameNumber}
-use Rattle.machine.specs.Records.{isOut}
+use lib.{Dec.T, ListN.{getD, set}}
+use Rattle.machine.specs.{Settings.{width, own}, Places.{blockNumber, nameNumber}, Records.isOut}
 use Rattle.machine.specs.Memory.{Memory, markIndex, stateOf, outOf}
-use Rattle.machine.specs.Calls.{Outcome, eventOf, answerOf, nextState, accept, setup}
-use Rattle.machine.specs.History.{history}
-use Rattle.machine.specs.Demands.{SetUp}
-use Rattle.printed.specs.Edges.{answersIn, acquires, servedAt, OneTimePair}
-use Rattle.machine.specs.declared.Settings.{Settings}
-use Rattle.machine.specs.declared.Direction.the-variants.{Right}
+use Rattle.machine.specs.{Calls.{Outcome, eventOf, answerOf, nextState, accept, setup}, History.history, Demands.SetUp}
+use Rattle.machine.specs.declared.{Settings.Settings, Direction.the-variants.Right}
 use Rattle.machine.specs.declared.Point.the-variants.{WriteX, Scan, WriteMark, ReadX}
-use Rattle.machine.specs.declared.State.{State}
-use Rattle.machine.specs.declared.State.the-variants.{Idle, Seeking, Holding}
-use Rattle.machine.specs.declared.Kind.{Kind}
-use Rattle.machine.specs.declared.Kind.the-variants.{Ask, Turn}
-use Rattle.machine.specs.declared.Event.{Event}
-use Rattle.machine.specs.declared.Answer.{Answer}
+use Rattle.machine.specs.declared.State.{State, the-variants.{Idle, Seeking, Holding}}
+use Rattle.machine.specs.declared.{Kind.{Kind, the-variants.{Ask, Turn}}, Event.Event, Answer.Answer}
+use Rattle.machine.specs.Ranges.{WithinLimits}
 use Rattle.machine.proofs.Fresh.{setup-within, fresh-idle, fresh-none-out}
-use Rattle.counting.proofs.Counting.{count-but-one}
 use Rattle.machine.proofs.Turning.{scan-marked, scan-done, reads-own}
 use Rattle.machine.proofs.Arriving.{arrive-edge, arrive-block, leave-at-once}
-use Rattle.machine.proofs.Seen.{x-on-block, mark-on-block, x-put, mark-put}
-use Rattle.machine.proofs.Histories.{fresh-fine, fresh-unmarked}
+use Rattle.machine.proofs.{Seen.{x-on-block, mark-on-block, x-put, mark-put}, Histories.{fresh-fine, fresh-unmarked}}
 use Rattle.machine.proofs.Laps.{Took, turn-took, ask-took}
-use Rattle.machine.specs.Ranges.{WithinLimits}
+use Rattle.grid.specs.Triangle.{half, placeNumber}
+use Rattle.printed.specs.Edges.{answersIn, acquires, servedAt, OneTimePair}
+use Rattle.counting.proofs.Counting.{count-but-one}
 
 -- what the calls are answered, from m on
 record Heard (s : Settings) (events : List Event) (m : Memory) (answers : List Answer) : Type 0 where
@@ -40,8 +29,10 @@ heard-nothing : {s : Settings} {m : Memory} → Heard s [] m []
 heard-nothing = record { are = refl }
 
 -- an accepted call that leaves its task at `to`, and the calls after it
-heard : {s : Settings} {fair : WithinLimits s} {kind : Kind} {p : ℕ} {state : State} {m : Memory} {events : List Event} {rest : List Answer}
-    (to : State) → Took s fair kind p state m → nextState s kind p state m ≡ to → Heard s events (accept s kind p state m .memory) rest
+heard : {s : Settings} {fair : WithinLimits s} {kind : Kind} {p : ℕ} {state : State} {m : Memory}
+    {events : List Event} {rest : List Answer}
+    (to : State) → Took s fair kind p state m → nextState s kind p state m ≡ to
+    → Heard s events (accept s kind p state m .memory) rest
     → Heard s (eventOf kind p ∷ events) m (answerOf s kind state to ∷ rest)
 heard {s = s} {kind = kind} {p = p} {state = state} {m = m} {events = events} {rest = rest} to took e more = record {
   are = ap (λ (o : Outcome). o .answer ∷ answersIn (history s events (o .memory))) (took .does)
@@ -54,7 +45,8 @@ two-names : (s : Settings) → s .k ≡ 2 → (nameNumber s 0 0 ≡ 0) × (nameN
 unfolding half placeNumber
 two-names s two = rw two (refl, refl)
 
-module _ (s : Settings) (lent : Memory) (ok : SetUp s lent) (one-time : s .mode ≡ 0) (two : s .k ≡ 2) (p q : ℕ) (lp : p < s .n) (lq : q < s .n)
+module _ (s : Settings) (lent : Memory) (ok : SetUp s lent) (one-time : s .mode ≡ 0) (two : s .k ≡ 2) (p q : ℕ)
+    (lp : p < s .n) (lq : q < s .n)
     (d : q ≡ p → ⊥) where
   abbrev fair : WithinLimits s
   fair = setup-within s lent ok
@@ -110,7 +102,8 @@ module _ (s : Settings) (lent : Memory) (ok : SetUp s lent) (one-time : s .mode 
   unmarked : nextState s Turn p (Seeking 0 0 (Scan 0)) m₂ ≡ Seeking 0 0 WriteMark
   unmarked =
       let v = getD (m₂ .marks) (markIndex s (blockNumber s 0 0) 0) 0 in
-      let e : v ≡ 0 = sym (mark-on-block s (m₀ .marks) 0 0 0 (omega arith) (omega (arith, one-wide))) ∙ fresh-unmarked s lent ok 0 0 0 in
+      let e : v ≡ 0 = sym (mark-on-block s (m₀ .marks) 0 0 0 (omega arith) (omega (arith, one-wide)))
+      ∙ fresh-unmarked s lent ok 0 0 0 in
       sym (scan-done s p 0 0 0 v (λ z. omega arith) (omega (arith, one-wide)))
 
   marks : Took s fair Turn p (Seeking 0 0 WriteMark) m₃
@@ -123,7 +116,8 @@ module _ (s : Settings) (lent : Memory) (ok : SetUp s lent) (one-time : s .mode 
   own-x : nextState s Turn p (Seeking 0 0 ReadX) m₄ ≡ Holding 0 0
   own-x =
       let put = x-put s fair m₁ m₂ 0 0 (p + 1) (omega arith) (asks .fine .good .sound .long .xs) refl in
-      sym (reads-own s p 0 0 (getD (m₄ .xs) (blockNumber s 0 0) 0) (sym (x-on-block s (m₂ .xs) 0 0 (omega arith)) ∙ put .here))
+      sym (reads-own s p 0 0 (getD (m₄ .xs) (blockNumber s 0 0) 0)
+      (sym (x-on-block s (m₂ .xs) 0 0 (omega arith)) ∙ put .here))
 
   -- the calls of p moved p alone, so that one task at the most is out
   others : (r : ℕ) → (r ≡ p → ⊥) → stateOf m₅ r ≡ stateOf m₀ r
@@ -131,11 +125,13 @@ module _ (s : Settings) (lent : Memory) (ok : SetUp s lent) (one-time : s .mode 
 
   one-out : outOf s (m₅ .records) ≤ suc (outOf s (m₀ .records))
   one-out =
-      count-but-one (λ r. isOut (stateOf m₅ r)) (λ r. isOut (stateOf m₀ r)) (s .n) p (λ r _ n t. subst (λ z. T (isOut z)) (others r n) t)
+      count-but-one (λ r. isOut (stateOf m₅ r)) (λ r. isOut (stateOf m₀ r)) (s .n) p
+      (λ r _ n t. subst (λ z. T (isOut z)) (others r n) t)
 
   asks-later : Took s fair Ask q Idle m₅
   asks-later =
-      ask-took q m₅ (reads .fine) lq (omega (arith, one-out, fresh-none-out s lent ok)) (others q d ∙ fresh-idle s lent ok q lq)
+      ask-took q m₅ (reads .fine) lq (omega (arith, one-out, fresh-none-out s lent ok))
+      (others q d ∙ fresh-idle s lent ok q lq)
 
   writes-later : Took s fair Turn q start m₆
   writes-later = turn-took q 0 0 WriteX m₆ (asks-later .fine) lq (asks-later .its ∙ at-start)
@@ -146,7 +142,8 @@ module _ (s : Settings) (lent : Memory) (ok : SetUp s lent) (one-time : s .mode 
   -- the mark is set: q goes right, to the edge
   marked : nextState s Turn q (Seeking 0 0 (Scan 0)) m₇ ≡ Holding 0 1
   marked =
-      let put = mark-put s fair m₃ m₄ 0 0 0 1 (omega arith) (omega (arith, one-wide)) (scans .fine .good .sound .long .marks)
+      let put = mark-put s fair m₃ m₄ 0 0 0 1 (omega arith) (omega (arith, one-wide))
+      (scans .fine .good .sound .long .marks)
       (ap (λ (place : ℕ). set (m₃ .marks) (markIndex s (blockNumber s 0 0) place) 1) own-first) in
       let e = sym (mark-on-block s (m₄ .marks) 0 0 0 (omega arith) (omega (arith, one-wide))) ∙ put .here in
       sym (arrive-edge s 0 1 (omega arith) ∙ leave-at-once s 0 0 Right one-time

@@ -1,26 +1,17 @@
--- 01, "Both sides of each edge": the nine starred lines, as one statement about the definitions.
--- A run begins with setup of a lent memory. Where a line leaves N, k, mode or task open it is stated for all that are permitted; the lines that
--- fix N and k and follow a run of turns are stated on the largest memory: setup clears what is needed, and by `SurplusNeverBears` the rest
--- changes no answer (docs/DECISIONS.md).
-use mathlib.Core.Path.{_≡_}
-use mathlib.Core.Logic.{_⊎_}
-use mathlib.Core.List.{List, [], _∷_, _++_, map}
+-- 01, "Both sides of each edge": the nine starred lines, as one statement about the definitions. A run begins with
+-- setup of a lent memory. Where a line leaves N, k, mode or task open it is stated for all that are permitted; the
+-- lines that fix N and k and follow a run of turns are stated on the largest memory: setup clears what is needed, and
+-- by `SurplusNeverBears` the rest changes no answer (docs/DECISIONS.md).
+use mathlib.Core.{Path._≡_, Logic._⊎_, List.{List, [], _∷_, _++_, map}}
 use Prim.Native.Nat.{ℕ, _+_, _≤_, _<_}
 use lib.Dec.{T}
-use Rattle.machine.specs.Places.{nameNumber}
-use Rattle.machine.specs.Memory.{Memory, largest}
-use Rattle.machine.specs.Answers.{said, isAccepted}
-use Rattle.machine.specs.Calls.{call, setup, ask, turn, release}
-use Rattle.machine.specs.History.{Answered, turns}
-use Rattle.text.specs.Decimal.{bytesOf}
-use Rattle.printed.specs.EndLine.{eventsOf}
-use Rattle.printed.specs.Listing.{listing}
+use Rattle.machine.specs.{Places.nameNumber, Memory.{Memory, largest}, Answers.{said, isAccepted}}
+use Rattle.machine.specs.{Calls.{call, setup, ask, turn, release}, History.{Answered, turns}}
 use Rattle.machine.specs.Refusing.{NoneHolds, lentLines, rangeLines}
 use Rattle.machine.specs.Demands.{SetUp, memoryAfter, historyOf, used, bound}
-use Rattle.machine.specs.declared.Settings.{Settings}
-use Rattle.machine.specs.declared.Event.{Event}
-use Rattle.machine.specs.declared.Answer.{Answer}
-use Rattle.machine.specs.declared.Answer.the-variants.{Seeks, Holds, Freed}
+use Rattle.machine.specs.declared.{Settings.Settings, Event.Event, Answer.{Answer, the-variants.{Seeks, Holds, Freed}}}
+use Rattle.text.specs.Decimal.{bytesOf}
+use Rattle.printed.specs.{EndLine.eventsOf, Listing.listing}
 
 abbrev pub settings : ℕ → ℕ → ℕ → Settings
 settings mode n k = record { mode = mode; n = n; k = k }
@@ -79,7 +70,8 @@ sampleText =
 abbrev pub FiveNames : Type 0
 FiveNames =
     (s : Settings) → s .k ≡ 5
-    → (nameNumber s 0 0 ≡ 0) × (nameNumber s 0 4 ≡ 4) × (nameNumber s 1 0 ≡ 5) × (nameNumber s 2 2 ≡ 11) × (nameNumber s 4 0 ≡ 14)
+    → (nameNumber s 0 0 ≡ 0) × (nameNumber s 0 4 ≡ 4) × (nameNumber s 1 0 ≡ 5) × (nameNumber s 2 2 ≡ 11)
+    × (nameNumber s 4 0 ≡ 14)
 
 -- k = 1: ask gives name 0 after no turns
 abbrev pub NoTurns : Type 0
@@ -89,7 +81,8 @@ NoTurns =
 
 -- Lone task, mode 1, N = 2, k = 2: name 0 after 5 turns (N+3)
 abbrev pub LoneTask : Type 0
-LoneTask = (answers (settings 1 2 2) (acquires 0 5) ≡ servedAt 5 0) × (answers (settings 1 2 2) (acquires 1 5) ≡ servedAt 5 0)
+LoneTask = (answers (settings 1 2 2) (acquires 0 5) ≡ servedAt 5 0)
+    × (answers (settings 1 2 2) (acquires 1 5) ≡ servedAt 5 0)
 
 -- Then the other task: task 1 behind holder 0 gets name 1 in 3 turns; task 0 behind holder 1 in 4
 abbrev pub TheOtherTask : Type 0
@@ -100,15 +93,18 @@ TheOtherTask =
 -- Mode 0, k = 2: first task name 0 in 4 turns, a later one name 1 in 2
 abbrev pub OneTimePair : Type 0
 OneTimePair =
-    (s : Settings) (lent : Memory) → SetUp s lent → s .mode ≡ 0 → s .k ≡ 2 → (p q : ℕ) → p < s .n → q < s .n → (q ≡ p → ⊥)
+    (s : Settings) (lent : Memory) → SetUp s lent → s .mode ≡ 0 → s .k ≡ 2 → (p q : ℕ) → p < s .n → q < s .n
+    → (q ≡ p → ⊥)
     → answersIn (historyOf s lent (acquires p 4 ++ acquires q 2)) ≡ servedAt 4 0 ++ servedAt 2 1
 
 -- The listing above, whose task 0 uses 6 turns, the bound for N = 2, k = 2
 abbrev pub TheListing : Type 0
-TheListing = (listing sample ≡ sampleText) × (used (settings 1 2 2) largest (eventsOf sample 9) 0 ≡ 6) × (bound (settings 1 2 2) ≡ 6)
+TheListing = (listing sample ≡ sampleText) × (used (settings 1 2 2) largest (eventsOf sample 9) 0 ≡ 6)
+    × (bound (settings 1 2 2) ≡ 6)
 
--- Mode 1, N = 3, k = 2, two out, the third task's ask: 7. After one is freed: accepted. The two are both at their start, or p holds, or both hold;
--- either is freed. Behind the holder p the other needs p + 3 turns: write X, scan to p's mark, clear
+-- Mode 1, N = 3, k = 2, two out, the third task's ask: 7. After one is freed: accepted. The two are both at their
+-- start, or p holds, or both hold; either is freed. Behind the holder p the other needs p + 3 turns: write X, scan to
+-- p's mark, clear
 abbrev pub ThirdTask : ℕ → ℕ → ℕ → Type 0
 ThirdTask p q r =
     let both-hold : List Event = ask p ∷ ask q ∷ (turns 6 p ++ turns (p + 3) q) in
@@ -128,7 +124,8 @@ TwoOut = ThirdTask 0 1 2 × ThirdTask 0 2 1 × ThirdTask 1 0 2 × ThirdTask 1 2 
 abbrev pub LastIdentifier : Type 0
 LastIdentifier =
     (s : Settings) (lent : Memory) → SetUp s lent → s .n ≡ 256
-    → Refuses 4 (call s (ask 256) (setup s lent .memory) .answer) × T (isAccepted (call s (ask 255) (setup s lent .memory) .answer))
+    → Refuses 4 (call s (ask 256) (setup s lent .memory) .answer) × T
+    (isAccepted (call s (ask 255) (setup s lent .memory) .answer))
 
 -- Release in mode 0, any identifier below N: 5, also while idle
 abbrev pub NoRelease : Type 0
@@ -147,10 +144,12 @@ NoReleaseIdle =
 abbrev pub SetupsTaken : Type 0
 SetupsTaken = (mode n k : ℕ) → mode ≤ 1 → 1 ≤ n → n ≤ 256 → 1 ≤ k → k ≤ 16 → k ≤ n → SetUp (settings mode n k) largest
 
--- k = 17: 1. k = 3, N = 2: 1. N = 257: 1. So is a mode of 2. Whatever else the settings say, whatever is lent, and whichever call it is
+-- k = 17: 1. k = 3, N = 2: 1. N = 257: 1. So is a mode of 2. Whatever else the settings say, whatever is lent, and
+-- whichever call it is
 abbrev pub OutsideRefused : Type 0
 OutsideRefused =
-    (s : Settings) → (s .k ≡ 17) ⊎ (((s .k ≡ 3) × (s .n ≡ 2)) ⊎ ((s .n ≡ 257) ⊎ (s .mode ≡ 2))) → (m : Memory) (event : Event)
+    (s : Settings) → (s .k ≡ 17) ⊎ (((s .k ≡ 3) × (s .n ≡ 2)) ⊎ ((s .n ≡ 257) ⊎ (s .mode ≡ 2)))
+    → (m : Memory) (event : Event)
     → Refuses 1 (setup s m .answer) × Refuses 1 (call s event m .answer)
 
 -- the table, whole

@@ -1,17 +1,14 @@
 -- What listing a file into lent room leaves.
 use mathlib.Core.List.{List, [], _∷_, _++_}
 use Prim.Native.Nat.{ℕ, _+_, _*_}
-use lib.Dec.{ltb}
-use lib.ListN.{length, drop}
+use lib.{Dec.ltb, ListN.{length, drop}}
 use Rattle.machine.specs.Refusals.{when, first}
+use Rattle.machine.specs.declared.{Opening.Opening, Refusal.the-variants.ShortRoom, Verdict.Verdict, Writing.Writing}
 use Rattle.file.specs.File.{opening, Written, writtenOf}
 use Rattle.printed.specs.Listing.{listing}
-use Rattle.machine.specs.declared.Opening.{Opening}
-use Rattle.machine.specs.declared.Refusal.the-variants.{ShortRoom}
-use Rattle.machine.specs.declared.Verdict.{Verdict}
-use Rattle.machine.specs.declared.Writing.{Writing}
 
--- room that is enough for every listing: 23 bytes for the first line, 31 for an event's, 22 for the last; 14 where the file is refused
+-- room that is enough for every listing: 23 bytes for the first line, 31 for an event's, 22 for the last; 14 where the
+-- file is refused
 abbrev pub roomBy : Opening → ℕ
 roomBy (Opening.Opened settings count) = 45 + 31 * count
 roomBy (Opening.Refused why) = 14

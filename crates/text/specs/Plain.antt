@@ -1,4 +1,5 @@
--- What it is that a text is a number in plain decimal, without the definition that writes one. Theorem: `decimal-plain`.
+-- What it is that a text is a number in plain decimal, without the definition that writes one. Theorem:
+-- `decimal-plain`.
 use mathlib.Core.{Path._≡_, List.{List, [], _∷_}}
 use Prim.Native.Nat.{ℕ, _+_, _-_, _*_, _≤_, _<_}
 use lib.ListN.{length, getD}

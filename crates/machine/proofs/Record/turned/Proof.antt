@@ -1,6 +1,5 @@
 -- A record's turn is the definition's `nextRecord`: a seeking record by what the turn at its point ensures.
-use Rattle.machine.proofs.Tests.{tests}
-use Rattle.machine.proofs.Ranges.{seeks-on-block, seeks-at-point}
+use Rattle.machine.proofs.{Tests.tests, Ranges.{seeks-on-block, seeks-at-point}}
 use Rattle.machine.proofs.Record.turned.Statement.{statement}
 use Rattle.machine.proofs.Record.turned.Tie as tie
 
@@ -11,7 +10,12 @@ enum-known-state : tie.Need-enum-known-state
 enum-known-state c = search tests
 
 turned-requires : tie.Need-turned-requires
-turned-requires c κs = (seeks-on-block _ _ _ _ _ (c .before .before .before .pre) (c .before .state .given .1), seeks-at-point _ _ _ _ _ (c .before .before .before .pre) (c .before .state .given .1))
+turned-requires c κs = (
+  seeks-on-block _ _ _ _ _ (c .before .before .before .pre)
+      (c .before .state .given .1),
+  seeks-at-point _ _ _ _ _ (c .before .before .before .pre)
+      (c .before .state .given .1),
+)
 
 enum-told-2 : tie.Need-enum-told-2
 enum-told-2 c = search tests

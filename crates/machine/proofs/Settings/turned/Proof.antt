@@ -1,8 +1,7 @@
 -- The turn at a point is the definition's `pointTurned`: in each arm by the law of that point (`Turning`).
 use mathlib.Core.Path.{_∙_, sym}
 use native.Mathlib.Omega.{arith}
-use Rattle.machine.proofs.Tests.{tests}
-use Rattle.machine.proofs.Ranges.{scans-a-mark}
+use Rattle.machine.proofs.{Tests.tests, Ranges.scans-a-mark}
 use Rattle.machine.proofs.Turning.{scan-marked, scan-done, scan-on, reads-own, reads-other}
 use Rattle.machine.proofs.Settings.turned.Statement.{statement}
 use Rattle.machine.proofs.Settings.turned.Tie as tie
@@ -19,21 +18,34 @@ leave-requires c κs = search tests
 returns : tie.Need-returns
 returns c =
     let a = c .before .before .before .before .before .args in
-    rw (c .before .before .before .point .given .1) (c .leave .ensures ∙ scan-marked (a .self) (a .task .0) (a .r) (a .c) _ _ (c .before .if1 .taken))
+    rw (c .before .before .before .point .given .1)
+    (c .leave .ensures ∙ scan-marked (a .self) (a .task .0) (a .r) (a .c) _ _ (c .before .if1 .taken))
 
 width-requires : tie.Need-width-requires
 width-requires c κs = search tests
 
 add-if2 : tie.Need-add-if2
-add-if2 c = omega (arith, c .width .ensures, c .width .ok, scans-a-mark _ _ _ (c .before .before .before .before .before .pre .1) (c .before .before .before .point .given .1))
+add-if2 c = omega (
+  arith,
+  c .width .ensures,
+  c .width .ok,
+  scans-a-mark _ _ _
+      (c .before .before .before .before .before .pre .1) (c .before .before .before .point .given .1),
+)
 
 returns-2 : tie.Need-returns-2
 returns-2 c =
     let a = c .before .before .before .before .before .before .args in
-    rw (c .before .before .before .before .point .given .1) (scan-done (a .self) (a .task .0) (a .r) (a .c) _ _ (c .before .before .if1 .left) (c .if2 .taken ∙ c .before .width .ensures))
+    rw (c .before .before .before .before .point .given .1)
+    (scan-done (a .self) (a .task .0) (a .r) (a .c) _ _ (c .before .before .if1 .left)
+    (c .if2 .taken ∙ c .before .width .ensures))
 
 add-t14 : tie.Need-add-t14
-add-t14 c = omega (arith, scans-a-mark _ _ _ (c .before .before .before .before .before .before .pre .1) (c .before .before .before .before .point .given .1))
+add-t14 c = omega (
+  arith,
+  scans-a-mark _ _ _ (c .before .before .before .before .before .before .pre .1)
+      (c .before .before .before .before .point .given .1),
+)
 
 enum-told-2 : tie.Need-enum-told-2
 enum-told-2 c = search tests
@@ -67,7 +79,9 @@ returns-4 c = rw (c .enum-told .given .1)
 returns-5 : tie.Need-returns-5
 returns-5 c =
     let a = c .before .before .before .before .before .before .args in
-    rw (c .before .before .before .before .point .given .1) (scan-on (a .self) (a .task .0) (a .r) (a .c) _ _ (c .before .before .if1 .left) (λ e. c .if2 .left (e ∙ sym (c .before .width .ensures))))
+    rw (c .before .before .before .before .point .given .1)
+    (scan-on (a .self) (a .task .0) (a .r) (a .c) _ _ (c .before .before .if1 .left)
+    (λ e. c .if2 .left (e ∙ sym (c .before .width .ensures))))
 
 returns-6 : tie.Need-returns-6
 returns-6 c = rw (c .enum-told2 .given .1)
@@ -75,7 +89,8 @@ returns-6 c = rw (c .enum-told2 .given .1)
 returns-7 : tie.Need-returns-7
 returns-7 c =
     let a = c .before .before .before .before .before .args in
-    rw (c .before .before .before .enum-told3 .given .1) (c .leave2 .ensures ∙ reads-other (a .self) (a .task .0) (a .r) (a .c) _ (c .before .if3 .left))
+    rw (c .before .before .before .enum-told3 .given .1)
+    (c .leave2 .ensures ∙ reads-other (a .self) (a .task .0) (a .r) (a .c) _ (c .before .if3 .left))
 
 returns-8 : tie.Need-returns-8
 returns-8 c = rw (c .before .before .point2 .given .1) (c .moved .ensures)
