@@ -9,8 +9,8 @@ use Rattle.file.specs.File.{opening, reading, Written, writing, openingS
 -- the numbers of the events that a reader at a position gives when it is asked so many times
 abbrev pub eventsRead : List ℕ → ℕ → ℕ → List ℕ
 eventsRead file at zero = []
-eventsRead file at (suc times) = readingSaid (reading file at .answer) .values ++ eventsRead file
-    (reading file at .at) times
+eventsRead file at (suc times) =
+    readingSaid (reading file at .answer) .values ++ eventsRead file (reading file at .at) times
 
 -- every element is a byte
 abbrev pub Bytes : List ℕ → Type 0

@@ -65,13 +65,13 @@ refuseOr (Verdict.Refused why) m outcome = record { answer = Answer.Refused why;
 
 -- what the tests of a call say of a memory
 abbrev pub verdictOf : Settings → Event → Memory → Verdict
-verdictOf s event m = verdict s (event .kind) (event .task .0) (viewOf s (m .records) (event .task .0)) (m .xs)
-    (m .marks)
+verdictOf s event m =
+    verdict s (event .kind) (event .task .0) (viewOf s (m .records) (event .task .0)) (m .xs) (m .marks)
 
 -- ask, turn or release of one task
 abbrev pub call : Settings → Event → Memory → Outcome
-call s event m = refuseOr (verdictOf s event m) m
-    (accept s (event .kind) (event .task .0) (stateOf m (event .task .0)) m)
+call s event m =
+    refuseOr (verdictOf s event m) m (accept s (event .kind) (event .task .0) (stateOf m (event .task .0)) m)
 
 -- setup makes the N records idle, all X 0 and all marks 0
 abbrev pub cleared : Settings → Memory → Memory
@@ -82,5 +82,6 @@ cleared s m = record {
 }
 
 abbrev pub setup : Settings → Memory → Outcome
-setup s m = refuseOr (setupVerdict s (viewOf s (m .records) 0) (m .xs) (m .marks)) m
+setup s m =
+    refuseOr (setupVerdict s (viewOf s (m .records) 0) (m .xs) (m .marks)) m
     (record { answer = Answer.Done; memory = cleared s m })

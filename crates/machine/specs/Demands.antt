@@ -47,8 +47,8 @@ Tells answer values = (said answer .number ≡ 0) × (said answer .values ≡ va
 -- what the last accepted call of task p answered; `before` where there was none
 abbrev pub lastAnswer : ℕ → List Answered → Answer → Answer
 lastAnswer p [] before = before
-lastAnswer p (done ∷ rest) before = lastAnswer p rest
-    (cond (isAccepted (done .answer) && eqb (done .event .task .0) p) (done .answer) before)
+lastAnswer p (done ∷ rest) before =
+    lastAnswer p rest (cond (isAccepted (done .answer) && eqb (done .event .task .0) p) (done .answer) before)
 
 -- what a task was last answered is true of its record: after "seeks" it seeks, after "holds" with a name it holds that
 -- name, and before its first ask and after "freed" it is idle
@@ -115,8 +115,8 @@ pub record Served (s : Settings) (lent : Memory) (events : List Event) (p : ℕ)
       → (more : ℕ) × (used s lent events p + more ≤ bound s) × HoldsSome (memoryAfter s lent (events ++ turns more p)) p
 
 abbrev pub ServedWithin : Type 0
-ServedWithin = (s : Settings) (lent : Memory) (events : List Event) → SetUp s lent → (p : ℕ) → p < s .n
-    → Served s lent events p
+ServedWithin =
+    (s : Settings) (lent : Memory) (events : List Event) → SetUp s lent → (p : ℕ) → p < s .n → Served s lent events p
 
 -- no call of a history is refused
 abbrev pub allAccepted : List Answered → Bool
@@ -137,7 +137,8 @@ pub record NeedsBound (s : Settings) (lent : Memory) (events : List Event) : Typ
   pub exactly : used s lent events 0 ≡ bound s
 
 abbrev pub BoundExact : Type 0
-BoundExact = (s : Settings) → WithinLimits s
+BoundExact =
+    (s : Settings) → WithinLimits s
     → (events : List Event) × ((lent : Memory) → SetUp s lent → NeedsBound s lent events)
 
 -- setup of a memory with rows long enough is accepted, so none of the above is empty

@@ -43,8 +43,8 @@ pub record OneAccess (s : Settings) (p : ℕ) : Type 0 where
   pub turn : (r c : ℕ) (point : Point) → StateWithin s (Seeking r c point)
       → T (touches (access s Turn p (Seeking r c point))) × RegisterNeeded s (access s Turn p (Seeking r c point))
   pub release-block : (r c : ℕ) → r + c + 2 ≤ s .k
-      → (access s Release p (Holding r c) ≡ MarkWritten (blockNumber s r c) (own s p) 0) × MarkNeeded s
-      (blockNumber s r c) (own s p)
+      → (access s Release p (Holding r c) ≡ MarkWritten (blockNumber s r c) (own s p) 0)
+      × MarkNeeded s (blockNumber s r c) (own s p)
   pub release-edge : (r c : ℕ) → r + c + 1 ≡ s .k → access s Release p (Holding r c) ≡ NoAccess
 
 abbrev pub EachOneAccess : Type 0
@@ -73,15 +73,15 @@ abbrev pub SameRead : Settings → Access → Memory → Memory → Type 0
 SameRead s NoAccess m m′ = Unit {0}
 SameRead s (XRead block) m m′ = getD (m .xs) block 0 ≡ getD (m′ .xs) block 0
 SameRead s (XWritten block v) m m′ = Unit {0}
-SameRead s (MarkRead block place) m m′ = getD (m .marks) (markIndex s block place) 0 ≡ getD (m′ .marks)
-    (markIndex s block place) 0
+SameRead s (MarkRead block place) m m′ =
+    getD (m .marks) (markIndex s block place) 0 ≡ getD (m′ .marks) (markIndex s block place) 0
 SameRead s (MarkWritten block place v) m m′ = Unit {0}
 
 -- a call on two memories gives the same answer and the same next record
 pub record SameEnd (s : Settings) (event : Event) (m m′ : Memory) : Type 0 where
   pub answer : call s event m .answer ≡ call s event m′ .answer
-  pub next-record : recordOf (call s event m .memory) (event .task .0) ≡ recordOf (call s event m′ .memory)
-      (event .task .0)
+  pub next-record : recordOf (call s event m .memory) (event .task .0)
+      ≡ recordOf (call s event m′ .memory) (event .task .0)
 
 -- "tests apart": the call is accepted on both memories. Then, from one record of the task, the register read decides
 -- the rest, and where none is read, in an ask, a release or a turn that writes, no X and no mark bears

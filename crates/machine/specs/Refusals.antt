@@ -65,8 +65,10 @@ tooManyOut s Release out = false
 
 -- the cases in their order: what is lent, 1 and 2; what it holds, 3, above; the task, 4 to 7
 abbrev pub lentCases : Settings → View → List ℕ → List ℕ → List Case → List Case
-lentCases s seen xs marks rest = when (outsideLimits s) Limits ∷ when
-    (rowShort s (seen .length) xs marks) ShortRow ∷ rest
+lentCases s seen xs marks rest =
+    when (outsideLimits s) Limits
+    ∷ when (rowShort s (seen .length) xs marks) ShortRow
+    ∷ rest
 
 abbrev pub taskCases : Settings → Kind → ℕ → View → List Case
 taskCases s kind p seen =
@@ -82,5 +84,5 @@ setupVerdict s seen xs marks = first (lentCases s seen xs marks [])
 
 -- the other calls 1 to 7 ascending
 abbrev pub verdict : Settings → Kind → ℕ → View → List ℕ → List ℕ → Verdict
-verdict s kind p seen xs marks = first (lentCases s seen xs marks
-    (rangeCases s seen xs marks (taskCases s kind p seen)))
+verdict s kind p seen xs marks =
+    first (lentCases s seen xs marks (rangeCases s seen xs marks (taskCases s kind p seen)))

@@ -14,8 +14,8 @@ pub record AnswerTells (s : Settings) (p : ℕ) (m : Memory) : Type 0 where
   -- one after which it holds answers the name that it then holds
   pub holds : (kind : Kind) (n : ℕ) → AcceptedIn s (eventOf kind p) m
       → HoldsName s (call s (eventOf kind p) m .memory) p n
-      → (call s (eventOf kind p) m .answer ≡ Answer.Holds (record { 0 = n })) × Tells
-      (call s (eventOf kind p) m .answer) (n ∷ [])
+      → (call s (eventOf kind p) m .answer ≡ Answer.Holds (record { 0 = n }))
+      × Tells (call s (eventOf kind p) m .answer) (n ∷ [])
   -- a release answers the name that the task held
   pub frees : (n : ℕ) → AcceptedIn s (release p) m → HoldsName s m p n
       → (call s (release p) m .answer ≡ Answer.Freed (record { 0 = n })) × Tells (call s (release p) m .answer) (n ∷ [])

@@ -76,8 +76,8 @@ leave s r c direction = cond (eqb (s .mode) 0) (move s r c direction) (Seeking r
 abbrev pub pointTurned : Settings → ℕ → ℕ → ℕ → Point → ℕ → State
 pointTurned s p r c WriteX v = Seeking r c (Scan 0)
 pointTurned s p r c (Scan h) v =
-    cond (eqb v 1) (leave s r c Right) (cond (eqb (h + 1) (width s)) (Seeking r c WriteMark)
-    (Seeking r c (Scan (h + 1))))
+    cond (eqb v 1) (leave s r c Right)
+    (cond (eqb (h + 1) (width s)) (Seeking r c WriteMark) (Seeking r c (Scan (h + 1))))
 pointTurned s p r c WriteMark v = Seeking r c ReadX
 pointTurned s p r c ReadX v = cond (eqb v (p + 1)) (Holding r c) (leave s r c Down)
 pointTurned s p r c (Clear direction) v = move s r c direction

@@ -124,8 +124,8 @@ TwoOut = ThirdTask 0 1 2 × ThirdTask 0 2 1 × ThirdTask 1 0 2 × ThirdTask 1 2 
 abbrev pub LastIdentifier : Type 0
 LastIdentifier =
     (s : Settings) (lent : Memory) → SetUp s lent → s .n ≡ 256
-    → Refuses 4 (call s (ask 256) (setup s lent .memory) .answer) × T
-    (isAccepted (call s (ask 255) (setup s lent .memory) .answer))
+    → Refuses 4 (call s (ask 256) (setup s lent .memory) .answer)
+    × T (isAccepted (call s (ask 255) (setup s lent .memory) .answer))
 
 -- Release in mode 0, any identifier below N: 5, also while idle
 abbrev pub NoRelease : Type 0
