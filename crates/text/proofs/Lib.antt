@@ -1,2 +1,3 @@
+-- Laws of texts put into a room, for this crate and those above it.
 pub mod Digits
 pub mod Putting
