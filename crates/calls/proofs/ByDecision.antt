@@ -23,7 +23,7 @@ use Rattle.machine.specs.declared.Access.the-variants.{NoAccess, XRead, XWritte
 use Rattle.machine.specs.declared.Kind.{Kind}
 use Rattle.machine.specs.declared.Verdict.{Verdict}
 use Rattle.machine.specs.declared.Answer.{Answer}
-use Rattle.machine.proofs.Searching.{none-bad-all}
+use Rattle.counting.proofs.Searching.{none-bad-all}
 use Rattle.rules.specs.Decision.{rows, Sees, Decision, decisionBy, decision, Preparation, preparationBy, preparation}
 use Rattle.rules.proofs.Rows.{none-short, lent-passes}
 use Rattle.rows.specs.Rows.{cleared}

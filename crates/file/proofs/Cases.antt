@@ -1,4 +1,4 @@
--- The first of a list of cases that holds: past a case that does not, and of two lists one after the other.
+-- The first of two lists of cases, one after the other.
 use mathlib.Core.Path.{_≡_, refl, sym, ap, _∙_}
 use mathlib.Core.Bool.{Bool, true, false, cond}
 use mathlib.Core.List.{List, [], _∷_, _++_}
@@ -6,13 +6,6 @@ use Rattle.machine.specs.Refusals.{Case, first}
 use Rattle.machine.specs.declared.Refusal.{Refusal}
 use Rattle.machine.specs.declared.Verdict.{Verdict}
 use Rattle.machine.specs.declared.Verdict.the-variants.{Accepted, Refused}
-
--- where a list accepts, its first case does not hold and the rest accepts
-pub first-passed : (b : Bool) (why : Refusal) (rest : Verdict) → cond b (Refused why) rest ≡ Accepted → (b ≡ false) × (rest ≡ Accepted)
-first-passed true why rest e = (cc, cc)
-first-passed false why rest e = (refl, e)
-
--- ---- one list of cases after another
 
 -- the second list counts only where the first accepts
 abbrev after : Verdict → Verdict → Verdict

@@ -6,16 +6,18 @@ use Prim.Native.Nat.{ℕ, zero, suc, _+_, _≤_, _<_}
 use native.Mathlib.Nat.{add-zero}
 use native.Mathlib.Numerals.{add-one}
 use native.Mathlib.Omega.{arith}
-use lib.Dec.{eqb, ltb}
+use lib.Dec.{T, ltb}
 use lib.ListN.{length, getD, drop, drop-of-length-le}
 use lib.Seq.{drop-cons}
 use borrow.Author.Tests.{ltb-false, eqb-true}
 use Rattle.machine.specs.Refusals.{first}
-use Rattle.file.specs.File.{eventNumber, readingSaid, fileLength, byteAt, lettersRight, settingsOf, countOf, codeAt, eventAt, codeBad, anyBelow, headerCases, Read, headerBytes, codeIn, eventBytes, eventsBytes, fileBytes, numberBad, writing}
+use Rattle.counting.specs.Counting.{anyBelow}
+use Rattle.file.specs.File.{eventNumber, readingSaid, fileLength, byteAt, lettersRight, settingsOf, countOf, codeAt, eventAt, codeBad, headerCases, Read, headerBytes, codeIn, eventBytes, eventsBytes, fileBytes, numberBad, writing}
 use Rattle.machine.specs.declared.Verdict.the-variants.{Accepted}
 use Rattle.file.specs.RoundTrip.{eventsRead, Bytes, FileComesBack}
 use Rattle.file.proofs.Numbers.{low-of-word, high-of-word, event-of-bytes}
-use Rattle.file.proofs.Search.{none-below, each-none}
+use Rattle.counting.proofs.Some.{none-below, each-none}
+use Rattle.file.proofs.Refusing.{letters-tested}
 use Rattle.file.proofs.Writes.{Writable, filled, writable-written}
 use Rattle.file.proofs.Headers.{Header, header-accepted, Accepts, file-accepted, reading-given}
 
@@ -33,22 +35,11 @@ drop-elements l i (suc n) fits =
     let same : i + 1 + n ≡ i + suc n = omega arith in
     drop-cons l i 0 (omega arith) ∙ ap (λ (r : List ℕ). getD l i 0 ∷ r) (rw (sym (add-one i), later, same))
 
--- both parts of a test that holds
-both : (a b : Bool) → a && b ≡ true → (a ≡ true) × (b ≡ true)
-both true b e = (refl, e)
-both false b e = (cc, cc)
-
-letters-are : (file : List ℕ) → lettersRight file ≡ true → (byteAt file 0 ≡ 71) × (byteAt file 1 ≡ 82) × (byteAt file 2 ≡ 83)
-letters-are file e =
-    let g = both (eqb (byteAt file 0) 71) (eqb (byteAt file 1) 82 && eqb (byteAt file 2) 83) e in
-    let r = both (eqb (byteAt file 1) 82) (eqb (byteAt file 2) 83) (g .1) in
-    (eqb-true _ _ (g .0), eqb-true _ _ (r .0), eqb-true _ _ (r .1))
-
 module _ (file : List ℕ) (bytes : Bytes file) (good : Header file) where
   -- the header's bytes are the file's first eleven
   header-bytes : headerBytes (settingsOf file) (countOf file) ≡ elements file 0 11
   header-bytes =
-      let letters = letters-are file (good .letters) in
+      let letters = letters-tested file .says (subst T (sym (good .letters)) tt) in
       let one : byteAt file 3 ≡ 1 = omega (arith, good .version) in
       let nought : byteAt file 4 ≡ 0 = omega (arith, good .version) in
       rw (

@@ -3,11 +3,14 @@ use mathlib.Core.Path.{_≡_, refl, sym, ap, _∙_}
 use mathlib.Core.Bool.{true, false}
 use mathlib.Core.List.{List, []}
 use Prim.Native.Nat.{ℕ, _+_, _≤_, _<_}
+use lib.Dec.{eqb}
 use lib.ListN.{length}
 use borrow.Author.Tests.{ltb-false, eqb-true, not-false, le-ltb, le-leb, lt-leb, eq-eqb}
 use Rattle.machine.specs.Settings.{permitted}
 use Rattle.machine.specs.Refusals.{first}
-use Rattle.file.specs.File.{mostEvents, fileLength, lettersRight, versionOf, settingsOf, countOf, anyBelow, codeBad, eventAt, headerCases, openVerdict, openingBy, opening, Read, readBy, reading, codeCases, eventCases}
+use Rattle.machine.proofs.Deciding.{no-case}
+use Rattle.counting.specs.Counting.{anyBelow}
+use Rattle.file.specs.File.{mostEvents, fileLength, lettersRight, versionOf, settingsOf, countOf, codeBad, eventAt, headerCases, openVerdict, openingBy, opening, Read, readBy, reading, codeCases, eventCases}
 use Rattle.machine.specs.declared.Settings.{Settings}
 use Rattle.machine.specs.declared.Refusal.{Refusal}
 use Rattle.machine.specs.declared.Refusal.the-variants.{NoEvent}
@@ -15,7 +18,7 @@ use Rattle.machine.specs.declared.Verdict.{Verdict}
 use Rattle.machine.specs.declared.Verdict.the-variants.{Accepted, Refused}
 use Rattle.machine.specs.declared.Opening.{Opening}
 use Rattle.machine.specs.declared.Reading.{Reading}
-use Rattle.file.proofs.Cases.{first-passed, first-then, first-stays, first-both}
+use Rattle.file.proofs.Cases.{first-then, first-stays, first-both}
 
 -- what each test shows
 pub record Header (file : List ℕ) : Type 0 where
@@ -28,19 +31,14 @@ pub record Header (file : List ℕ) : Type 0 where
 
 pub header-accepted : (file : List ℕ) → first (headerCases file []) ≡ Accepted → Header file
 header-accepted file accepted =
-    let long = first-passed _ _ _ accepted in
-    let letters = first-passed _ _ _ (long .1) in
-    let version = first-passed _ _ _ (letters .1) in
-    let limits = first-passed _ _ _ (version .1) in
-    let few = first-passed _ _ _ (limits .1) in
-    let whole = first-passed _ _ _ (few .1) in
+    let (long, (letters, (version, (limits, (few, (whole, last)))))) = no-case (headerCases file []) accepted in
     record {
-      long = ltb-false _ _ (long .0);
-      letters = not-false _ (letters .0);
-      version = eqb-true _ _ (not-false _ (version .0));
-      limits = not-false _ (limits .0);
-      few = ltb-false _ _ (few .0);
-      whole = eqb-true _ _ (not-false _ (whole .0));
+      long = ltb-false (length file) 11 long;
+      letters = not-false (lettersRight file) letters;
+      version = eqb-true (versionOf file) 1 (not-false (eqb (versionOf file) 1) version);
+      limits = not-false (permitted (settingsOf file)) limits;
+      few = ltb-false mostEvents (countOf file) few;
+      whole = eqb-true (length file) (fileLength (countOf file)) (not-false (eqb (length file) (fileLength (countOf file))) whole);
     }
 
 pub header-accepts : (file : List ℕ) → Header file → first (headerCases file []) ≡ Accepted
@@ -80,7 +78,7 @@ file-accepted file s count e = go (openVerdict file) refl e
     go : (v : Verdict) → openVerdict file ≡ v → openingBy v (settingsOf file) (countOf file) ≡ Opening.Opened s count → Accepts file s count
     go Accepted is e =
         let parts = first-both (headerCases file []) (codeCases file) is in
-        record { passes = parts .0; codes = first-passed _ _ _ (parts .1) .0; its = cc; counted = cc }
+        record { passes = parts .0; codes = no-case (codeCases file) (parts .1) .0; its = cc; counted = cc }
     go (Refused why) is e = record { passes = cc; codes = cc; its = cc; counted = cc }
 
 -- the event at a position before the count is given, and the reader moves on

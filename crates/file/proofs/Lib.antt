@@ -1,6 +1,5 @@
 -- Laws and theorems of the schedule file.
 pub mod Cases
-pub mod Search
 pub mod Numbers
 pub mod Lengths
 pub mod Headers

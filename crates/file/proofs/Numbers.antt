@@ -3,7 +3,8 @@ use mathlib.Core.Path.{_≡_, refl, ap, _∙_}
 use mathlib.Core.List.{List, [], _∷_}
 use Prim.Native.Nat.{ℕ, zero, suc, _+_, _*_, _/_, _%_, _≤_, _<_}
 use native.Mathlib.Omega.{arith}
-use Rattle.file.specs.File.{byteAt, wordAt, kindOf, codeIn, eventBytes, codeOf}
+use lib.ListN.{getD}
+use Rattle.file.specs.File.{byteAt, wordAt, kindOf, wordBytes, codeIn, eventBytes, codeOf}
 
 -- the low byte of a number, what stands above it, and the byte above it
 low-byte : (low rest : ℕ) → low < 256 → (low + 256 * rest) % 256 ≡ low
@@ -22,7 +23,8 @@ low-of-word file i l = omega arith
 pub high-of-word : (file : List ℕ) (i : ℕ) → byteAt file i < 256 → byteAt file (i + 1) < 256 → wordAt file i / 256 % 256 ≡ byteAt file (i + 1)
 high-of-word file i l h = high-byte (byteAt file i) (byteAt file (i + 1)) l h
 
-pub bytes-of-word : (n : ℕ) → n < 65536 → n % 256 + 256 * (n / 256 % 256) ≡ n
+-- and 16 bits written in two bytes are those again
+pub bytes-of-word : (n : ℕ) → n < 65536 → getD (wordBytes n) 0 0 + 256 * getD (wordBytes n) 1 0 ≡ n
 bytes-of-word n l = omega arith
 
 -- a code's kind has that code

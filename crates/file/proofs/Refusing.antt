@@ -19,36 +19,19 @@ use Rattle.machine.specs.declared.Refusal.{Refusal}
 use Rattle.machine.specs.declared.Verdict.{Verdict}
 use Rattle.machine.specs.declared.Verdict.the-variants.{Accepted}
 use Rattle.machine.specs.declared.Reading.{Reading}
-use Rattle.machine.proofs.Tested.{Tested, below, most, same, both, either, fails, meaning, never}
+use Rattle.counting.proofs.Tested.{Tested, below, most, same, both, either, fails, meaning, never}
+use Rattle.counting.proofs.Some.{some-below}
 use Rattle.machine.proofs.Limits.{limits-tested}
 use Rattle.machine.proofs.Deciding.{Are, refused-exactly, accepted-verdict, refusal-keeps}
-use Rattle.file.specs.File.{lettersRight, versionOf, settingsOf, countOf, codeAt, taskAt, eventAt, anyBelow, codeBad, headerCases, codeCases, openVerdict, openingBy, opening, kindOf, eventCases, eventVerdict, readBy, reading, fileLength, fileBytes, numberBad, writeCases, writeVerdict, writtenBy, writing, openingSaid, readingSaid, writingSaid}
+use Rattle.counting.specs.Counting.{anyBelow}
+use Rattle.file.specs.File.{lettersRight, versionOf, settingsOf, countOf, codeAt, taskAt, eventAt, codeBad, headerCases, codeCases, openVerdict, openingBy, opening, kindOf, eventCases, eventVerdict, readBy, reading, fileLength, fileBytes, numberBad, writeCases, writeVerdict, writtenBy, writing, openingSaid, readingSaid, writingSaid}
 use Rattle.file.specs.Refusing.{byte, sixteen, headerLines, codeLines, openLines, eventLines, nextLines, writeLines, OpeningTold, EachOpening, Gives, ReadingTold, EachReading, WritingTold, EachWriting, WriterTakes}
 use Rattle.file.proofs.Numbers.{kind-code}
 use Rattle.file.proofs.Lengths.{length-file}
 
--- ---- tests and lines
-
--- some number below n passes
-some-below : {Holds : ℕ → Type 0} (test : ℕ → Bool) → ((i : ℕ) → Tested (test i) (Holds i)) → (n : ℕ)
-    → Tested (anyBelow test n) ((i : ℕ) × (i < n) × Holds i)
-some-below test each zero = never (λ some. not-suc-le-zero (some .1))
-some-below {Holds = Holds} test each (suc n) = meaning (either (some-below test each n) (each n)) (there, back)
-  where
-    there : ((i : ℕ) × (i < n) × Holds i) ⊎ Holds n → (i : ℕ) × (i < suc n) × Holds i
-    there (inl (i, l, here)) = (i, omega arith, here)
-    there (inr here) = (n, omega arith, here)
-
-    back : (i : ℕ) × (i < suc n) × Holds i → ((i : ℕ) × (i < n) × Holds i) ⊎ Holds n
-    back (i, l, here) = go (ℕ-discrete i n)
-      where
-        go : Dec (i ≡ n) → ((i : ℕ) × (i < n) × Holds i) ⊎ Holds n
-        go (yes e) = inr (rw e at here)
-        go (no other) = inl (i, omega arith, here)
-
 -- ---- opening's tests but the last
 
-letters-tested : (file : List ℕ) → Tested (lettersRight file) ((byte file 0 ≡ 0x47) × (byte file 1 ≡ 0x52) × (byte file 2 ≡ 0x53))
+pub letters-tested : (file : List ℕ) → Tested (lettersRight file) ((byte file 0 ≡ 0x47) × (byte file 1 ≡ 0x52) × (byte file 2 ≡ 0x53))
 letters-tested file =
     meaning (both (same (byte file 0) 0x47) (both (same (byte file 1) 0x52) (same (byte file 2) 0x53)))
     (λ (g, (r, s)). (g, r, s), λ (g, r, s). (g, (r, s)))
@@ -91,12 +74,15 @@ module _ (file : List ℕ) where
   opened : openSays (openVerdict file) .number ≡ 0 → openVerdict file ≡ Accepted
   opened = accepted-verdict openSays refl (λ why. refl) (openVerdict file)
 
-  pub each-opening : OpeningTold file
-  each-opening = record {
+  opening-told : OpeningTold file
+  opening-told = record {
     exactly = refused-exactly openSays refl (λ why. refl) (headerCases file (codeCases file)) (openLines file) open-are;
     answers = λ accepted. ap (λ (v : Verdict). openingBy v (settingsOf file) (countOf file)) (opened accepted);
     values = λ accepted. ap (λ (v : Verdict). openSays v .values) (opened accepted);
   }
+
+pub each-opening : EachOpening
+each-opening = opening-told
 
 -- ---- the next event
 
@@ -130,8 +116,8 @@ module _ (file : List ℕ) (at : ℕ) where
       let (long, (letters, (version, (fair, (few, (whole, (some, (code, last)))))))) = next-exactly .accepted .0 accepted in
       omega arith
 
-  pub each-reading : ReadingTold file at
-  each-reading = record {
+  reading-told : ReadingTold file at
+  reading-told = record {
     exactly = next-exactly;
     gives = λ accepted. rw (given accepted) (kind-given (codeAt file at) (taskAt file at .0) (known accepted));
     values = λ accepted. ap (λ (v : Verdict). nextSays v .values) (given accepted)
@@ -139,6 +125,9 @@ module _ (file : List ℕ) (at : ℕ) where
     moves = λ accepted. ap (λ (v : Verdict). readBy v (eventAt file at) at .at) (given accepted);
     stays = refusal-keeps nextSays refl (λ why. refl) (λ v. readBy v (eventAt file at) at .at) at (λ why. refl) (eventVerdict file at);
   }
+
+pub each-reading : EachReading
+each-reading = reading-told
 
 -- ---- writing
 
@@ -161,14 +150,17 @@ module _ (s : Settings) (numbers room : List ℕ) where
   pub wrote : writeSays (writeVerdict s numbers room) .number ≡ 0 → writeVerdict s numbers room ≡ Accepted
   wrote = accepted-verdict writeSays refl (λ why. refl) (writeVerdict s numbers room)
 
-  pub each-writing : WritingTold s numbers room
-  each-writing = record {
+  writing-told : WritingTold s numbers room
+  writing-told = record {
     exactly = refused-exactly writeSays refl (λ why. refl) (writeCases s numbers room) (writeLines s numbers room) write-are;
     values = λ accepted. ap (λ (v : Verdict). writeSays v .values) (wrote accepted);
     beyond = λ accepted. ap (λ (v : Verdict). drop (fileLength (length numbers)) (writtenBy v s numbers room .room)) (wrote accepted)
         ∙ drop-at (fileBytes s numbers) (drop (fileLength (length numbers)) room) (fileLength (length numbers)) (length-file s numbers);
     keeps = refusal-keeps writeSays refl (λ why. refl) (λ v. writtenBy v s numbers room .room) room (λ why. refl) (writeVerdict s numbers room);
   }
+
+pub each-writing : EachWriting
+each-writing = writing-told
 
 -- no line holds of the schedule of no events and a room of eleven bytes
 pub writer-takes : WriterTakes

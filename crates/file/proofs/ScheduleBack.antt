@@ -12,7 +12,8 @@ use borrow.Author.Tests.{ltb-false, le-ltb, not-false}
 use Rattle.machine.specs.Settings.{permitted}
 use Rattle.machine.specs.Refusals.{first}
 use Rattle.machine.specs.Answers.{Said}
-use Rattle.file.specs.File.{eventNumber, readingSaid, writingSaid, fileLength, settingsOf, countOf, codeAt, eventAt, codeBad, anyBelow, headerCases, opening, Read, reading, headerBytes, codeIn, eventBytes, eventsBytes, fileBytes, numberBad, writeVerdict, writtenBy, writing}
+use Rattle.counting.specs.Counting.{anyBelow}
+use Rattle.file.specs.File.{mostEvents, writeCases, eventNumber, readingSaid, writingSaid, fileLength, settingsOf, countOf, codeAt, eventAt, codeBad, headerCases, opening, Read, reading, headerBytes, codeIn, eventBytes, eventsBytes, fileBytes, numberBad, writeVerdict, writtenBy, writing}
 use Rattle.machine.specs.declared.Settings.{Settings}
 use Rattle.machine.specs.declared.Verdict.{Verdict}
 use Rattle.machine.specs.declared.Verdict.the-variants.{Accepted, Refused}
@@ -22,8 +23,8 @@ use Rattle.machine.proofs.Limits.{limits}
 use Rattle.file.specs.RoundTrip.{eventsRead, Tells, Holds, ScheduleComesBack}
 use Rattle.file.proofs.Numbers.{bytes-of-word, bytes-of-event}
 use Rattle.file.proofs.Lengths.{length-file}
-use Rattle.file.proofs.Search.{none-below, each-none}
-use Rattle.file.proofs.Cases.{first-passed}
+use Rattle.counting.proofs.Some.{none-below, each-none}
+use Rattle.machine.proofs.Deciding.{no-case}
 use Rattle.file.proofs.Headers.{Header, header-accepts, opening-passed, reading-given, reading-ends}
 use Rattle.file.proofs.Refusing.{wrote, each-writing}
 use Rattle.file.proofs.Writes.{Writable}
@@ -137,10 +138,8 @@ written-accepted s numbers room count (accepted, value) =
 
 verdict-writable : (s : Settings) (numbers room : List ℕ) → writeVerdict s numbers room ≡ Accepted → Writable s numbers
 verdict-writable s numbers room accepted =
-    let limits = first-passed _ _ _ accepted in
-    let few = first-passed _ _ _ (limits .1) in
-    let codes = first-passed _ _ _ (few .1) in
-    record { limits = not-false _ (limits .0); few = ltb-false _ _ (few .0); codes = codes .0 }
+    let (limits, (few, (codes, last))) = no-case (writeCases s numbers room) accepted in
+    record { limits = not-false (permitted s) limits; few = ltb-false mostEvents (length numbers) few; codes = codes }
 
 pub schedule-comes-back : ScheduleComesBack
 schedule-comes-back s numbers room count e =

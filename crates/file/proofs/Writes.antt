@@ -7,7 +7,8 @@ use native.Mathlib.Omega.{arith}
 use lib.ListN.{length, drop}
 use borrow.Author.Tests.{le-ltb}
 use Rattle.machine.specs.Settings.{permitted}
-use Rattle.file.specs.File.{mostEvents, fileLength, anyBelow, numberBad, fileBytes, Written, writing}
+use Rattle.counting.specs.Counting.{anyBelow}
+use Rattle.file.specs.File.{mostEvents, fileLength, numberBad, fileBytes, Written, writing}
 use Rattle.machine.specs.declared.Settings.{Settings}
 use Rattle.machine.specs.declared.Writing.{Writing}
 use Rattle.file.proofs.Lengths.{length-file}

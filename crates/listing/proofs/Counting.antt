@@ -9,7 +9,7 @@ use native.Mathlib.Omega.{arith}
 use lib.ListN.{length, getD, set, replicate, length-replicate, getD-replicate, List·getD-eq-default}
 use lib.Seq.{set-out, getD-set-same, getD-set-other}
 use Rattle.machine.specs.Records.{idle, isHolding}
-use Rattle.machine.specs.Memory.{tick, count}
+use Rattle.counting.specs.Counting.{tick, count}
 use Rattle.machine.specs.Answers.{isAccepted}
 use Rattle.machine.specs.Calls.{call}
 use Rattle.machine.specs.History.{counted}

@@ -13,7 +13,7 @@ use Rattle.machine.specs.declared.Opening.{Opening}
 use Rattle.machine.specs.declared.Reading.{Reading}
 use Rattle.machine.proofs.Limits.{limits}
 use Rattle.file.proofs.Headers.{header-accepted, file-accepted, reading-given}
-use Rattle.file.proofs.Search.{none-below}
+use Rattle.counting.proofs.Some.{none-below}
 
 module _ (file : List ℕ) (s : Settings) (count : ℕ) (opened : opening file ≡ Opening.Opened s count) where
   -- N is at most 256

@@ -21,8 +21,9 @@ use Rattle.machine.specs.declared.Kind.{Kind}
 use Rattle.machine.specs.declared.Event.{Event}
 use Rattle.machine.specs.OneAccess.{RegisterNeeded, accessOf, AcceptedIn, reads, SameRead, SameEnd, OnlyTheRegisterReadBears, WritesX, WritesMark, Stands, ChangesOnly, WrittenChanges, OnlyTheRegisterWrittenChanges}
 use Rattle.machine.proofs.Refusing.{ruled}
-use Rattle.machine.proofs.Passing.{Lendable, Passed, passed, by-the-rules}
+use Rattle.machine.proofs.Passing.{passed, by-the-rules}
 use Rattle.machine.proofs.OneAccess.{call-needed}
+use Rattle.machine.proofs.Passed.{Passed, Fit}
 
 -- ---- one access on a memory
 
@@ -55,12 +56,12 @@ module _ (s : Settings) (m : Memory) where
   store-marks (MarkRead block place) = same-row _ (m .marks)
   store-marks (MarkWritten block place v) = set-row (m .marks) (markIndex s block place) v
 
-  stands : (a : Access) → Lendable s m → RegisterNeeded s a → Stands s a (store s a m)
-  stands NoAccess lent h = tt
-  stands (XRead block) lent h = tt
-  stands (XWritten block v) lent h = getD-set-same (m .xs) block v 0 (let long = lent .xs in omega arith)
-  stands (MarkRead block place) lent h = tt
-  stands (MarkWritten block place v) lent h = getD-set-same (m .marks) (markIndex s block place) v 0 (let long = lent .marks in omega arith)
+  stands : (a : Access) → Fit s m → RegisterNeeded s a → Stands s a (store s a m)
+  stands NoAccess fit h = tt
+  stands (XRead block) fit h = tt
+  stands (XWritten block v) fit h = getD-set-same (m .xs) block v 0 (let long = fit .long .xs in omega arith)
+  stands (MarkRead block place) fit h = tt
+  stands (MarkWritten block place v) fit h = getD-set-same (m .marks) (markIndex s block place) v 0 (let long = fit .long .marks in omega arith)
 
   -- a record put in beside it leaves what was written
   stands-with : (a : Access) (p : ℕ) (new : Record) (m′ : Memory) → Stands s a m′ → Stands s a (withRecord p new m′)
@@ -79,15 +80,15 @@ module _ (s : Settings) (event : Event) (m : Memory) (h : Passed s event m) wher
 
   next-in-place : recordOf (ruled s event m .memory) (event .task .0) ≡ nextOf
   next-in-place =
-      let long = h .lent .records in
-      let low = h .task in
+      let long = h .fit .long .records in
+      let low = h .may .known in
       rw (store-records s m (accessOf s event m)) (getD-set-same (m .records) (event .task .0) nextOf idle (omega arith))
 
   accepted-changes : WrittenChanges s event m (ruled s event m .memory)
   accepted-changes = record {
     xs = store-xs s m (accessOf s event m);
     marks = store-marks s m (accessOf s event m);
-    written = stands-with s m (accessOf s event m) _ _ _ (stands s m (accessOf s event m) (h .lent) (call-needed s event m h));
+    written = stands-with s m (accessOf s event m) _ _ _ (stands s m (accessOf s event m) (h .fit) (call-needed s event m h));
     records = rw (store-records s m (accessOf s event m)) (set-row (m .records) (event .task .0) nextOf);
     own = ap (λ (r : Record). r .state) next-in-place;
   }

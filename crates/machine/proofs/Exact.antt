@@ -8,21 +8,21 @@ use native.Mathlib.Omega.{arith}
 use lib.Dec.{T}
 use lib.ListN.{length, replicate, length-replicate}
 use borrow.Author.Tests.{le-ltb, not-false}
-use Rattle.machine.specs.Settings.{permitted}
-use Rattle.machine.specs.Places.{half, blocks}
+use Rattle.grid.specs.Triangle.{half}
+use Rattle.machine.specs.Places.{blocks}
 use Rattle.machine.specs.Records.{idle, isSeeking}
 use Rattle.machine.specs.Memory.{Memory, marksNeeded, stateOf, largest}
 use Rattle.machine.specs.Answers.{isAccepted}
 use Rattle.machine.specs.Calls.{Outcome, call, setup, turn}
 use Rattle.machine.specs.Ranges.{WithinLimits}
-use Rattle.machine.specs.Worst.{worst}
+use Rattle.machine.proofs.Worst.{worst}
 use Rattle.machine.specs.Demands.{SetUp, memoryAfter, historyOf, Seeks, HoldsSome, allAccepted, NeedsBound}
 use Rattle.machine.specs.declared.Settings.{Settings}
 use Rattle.machine.specs.declared.Event.{Event}
-use Rattle.machine.proofs.Bools.{is-true}
-use Rattle.machine.proofs.Limits.{limits, permits, width-most}
-use Rattle.machine.proofs.Triangle.{half-square}
-use Rattle.machine.proofs.Fresh.{setup-permitted}
+use Rattle.counting.proofs.Tested.{passes}
+use Rattle.machine.proofs.Limits.{limits-tested, width-most}
+use Rattle.grid.proofs.Triangle.{half-most}
+use Rattle.machine.proofs.Fresh.{setup-within}
 use Rattle.machine.proofs.Outcomes.{Called, taken, refused, called}
 use Rattle.machine.proofs.Histories.{always-fine}
 use Rattle.machine.proofs.Leads.{EndsWith, last-accepted, used-written}
@@ -44,12 +44,12 @@ seeks-before-last s lent ok events last ends accepted e =
     let m = memoryAfter s lent (ends .before) in
     let split : T (allAccepted (historyOf s lent (ends .before ++ (turn 0 ∷ [])))) =
     subst (λ (all : List Event). T (allAccepted (historyOf s lent all))) (ends .split ∙ ap (λ (z : Event). ends .before ++ (z ∷ [])) e) accepted in
-    taken-turn-seeks s m 0 (call s (turn 0) m) (called s (setup-permitted s lent ok) (turn 0) m (always-fine s lent ok (ends .before) .good .sound))
+    taken-turn-seeks s m 0 (call s (turn 0) m) (called s (setup-within s lent ok) (turn 0) m (always-fine s lent ok (ends .before) .good .sound))
     (last-accepted s (ends .before) (turn 0) (setup s lent .memory) split)
 
 pub worst-needs-bound : (s : Settings) (lent : Memory) → SetUp s lent → NeedsBound s lent (worst s)
 worst-needs-bound s lent ok =
-    let bounds = limits s (setup-permitted s lent ok) in
+    let bounds = setup-within s lent ok in
     let foot = worst-run s lent ok in
     let end = worst-last s bounds in
     record {
@@ -65,19 +65,15 @@ worst-needs-bound s lent ok =
 
 -- ---- setup
 
-pub setup-takes-long-rows : (s : Settings) (m : Memory) → T (permitted s) → s .n ≤ length (m .records) → blocks s ≤ length (m .xs)
+pub setup-takes-long-rows : (s : Settings) (m : Memory) → WithinLimits s → s .n ≤ length (m .records) → blocks s ≤ length (m .xs)
     → marksNeeded s ≤ length (m .marks) → SetUp s m
 setup-takes-long-rows s m fair a b c =
     rw (
-      is-true (permitted s) fair,
+      passes (limits-tested s) fair,
       le-ltb (length (m .records)) (s .n) a,
       le-ltb (length (m .xs)) (blocks s) b,
       le-ltb (length (m .marks)) (marksNeeded s) c,
     )
-
--- k(k-1)/2 is at most 120
-half-most : (k : ℕ) → k ≤ 16 → half k ≤ 120
-half-most k l = let square = half-square k in omega (arith, mul-le-mul-right k l)
 
 long : {A : Type 0} (n : ℕ) (a : A) (need : ℕ) → need ≤ n → need ≤ length (replicate n a)
 long n a need l = rw (length-replicate n a) l
@@ -85,5 +81,5 @@ long n a need l = rw (length-replicate n a) l
 pub setup-takes-largest : (s : Settings) → WithinLimits s → SetUp s largest
 setup-takes-largest s bounds =
     let few = half-most (s .k) (bounds .k-most) in
-    setup-takes-long-rows s largest (permits s bounds) (long 256 idle (s .n) (bounds .n-most)) (long {A = ℕ} 120 0 (blocks s) few)
+    setup-takes-long-rows s largest bounds (long 256 idle (s .n) (bounds .n-most)) (long {A = ℕ} 120 0 (blocks s) few)
     (long {A = ℕ} 30720 0 (marksNeeded s) (mul-le-mul few (width-most s bounds)))

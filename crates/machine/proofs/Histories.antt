@@ -8,9 +8,10 @@ use native.Mathlib.Decide.{ℕ-discrete}
 use native.Mathlib.Omega.{arith}
 use lib.Dec.{T}
 use borrow.Author.Tests.{leb-false}
-use Rattle.machine.specs.Settings.{permitted, width}
+use Rattle.machine.specs.Settings.{width}
 use Rattle.machine.specs.Records.{isOut}
-use Rattle.machine.specs.Memory.{Memory, marksNeeded, stateOf, outOf, count, fill}
+use Rattle.counting.specs.Counting.{count}
+use Rattle.machine.specs.Memory.{Memory, marksNeeded, stateOf, outOf, fill}
 use Rattle.machine.specs.Refusals.{wrongMoment}
 use Rattle.machine.specs.Calls.{Outcome, call, accept, setup}
 use Rattle.machine.specs.History.{run, Answered, history}
@@ -21,19 +22,21 @@ use Rattle.machine.specs.declared.State.the-variants.{Idle, Seeking, Hol
 use Rattle.machine.specs.declared.Kind.{Kind}
 use Rattle.machine.specs.declared.Kind.the-variants.{Ask, Turn, Release}
 use Rattle.machine.specs.declared.Event.{Event}
-use Rattle.machine.proofs.Bools.{is-false}
-use Rattle.machine.proofs.Limits.{limits}
-use Rattle.machine.proofs.Searching.{count-none}
-use Rattle.machine.proofs.Fresh.{fill-at, setup-permitted, setup-memory, fresh-passes, fresh-idle, fresh-none-out}
-use Rattle.machine.proofs.Counting.{count-most, count-but-one}
-use Rattle.machine.proofs.Cover.{beyond, beyond-out}
-use Rattle.machine.proofs.Stands.{Rules, idle, Grid, Marks, HoldsAt, columnReach}
-use Rattle.machine.proofs.Covered.{reachOf}
-use Rattle.machine.proofs.Invariant.{AllInPlace, Invariant, invariant-kept}
+use Rattle.counting.proofs.Bools.{is-false}
+use Rattle.counting.proofs.Searching.{count-none}
+use Rattle.machine.proofs.Fresh.{fill-at, setup-within, setup-memory, fresh-idle, fresh-none-out, fresh-fit}
+use Rattle.counting.proofs.Counting.{count-most, count-but-one}
+use Rattle.grid.proofs.Cover.{beyond, beyond-out}
+use Rattle.grid.proofs.Stands.{Rules, idle, Grid, Marks, HoldsAt, columnReach}
+use Rattle.grid.proofs.Covered.{reachOf}
+use Rattle.grid.proofs.Invariant.{AllInPlace, Invariant, invariant-kept}
 use Rattle.machine.proofs.Seen.{rulesOf, standOf, gridOf, all-unmarked}
-use Rattle.machine.proofs.Sound.{Sound, passes-sound, accept-sound}
 use Rattle.machine.proofs.Steps.{in-place, others-after, accepted-step}
-use Rattle.machine.proofs.Outcomes.{Open, Called, taken, refused, accepted, called}
+use Rattle.machine.proofs.Outcomes.{Called, taken, refused, called}
+use Rattle.machine.proofs.Passed.{Fit, May}
+use Rattle.machine.specs.Ranges.{WithinLimits}
+use Rattle.machine.proofs.Fitting.{accept-fits}
+use Rattle.machine.proofs.Refusing.{ruled}
 
 -- ---- lists of calls
 
@@ -56,17 +59,17 @@ history-append s (event ∷ events) more m =
 
 -- ---- the invariants of a history
 
-module _ (s : Settings) (fair : T (permitted s)) where
+module _ (s : Settings) (fair : WithinLimits s) where
   abbrev pub rules : Rules
-  rules = rulesOf s (limits s fair)
+  rules = rulesOf s fair
 
   -- J0 to J3, where at most m are out at once
   pub record Good (m : ℕ) (memory : Memory) : Type 0 where
-    pub sound : Sound s memory
+    pub sound : Fit s memory
     pub invariant : Invariant rules m (gridOf s memory)
 
-  pub all-in-place : (memory : Memory) → Sound s memory → AllInPlace rules (gridOf s memory)
-  all-in-place memory h q l = in-place s (limits s fair) (stateOf memory q) (h .records-good q l)
+  pub all-in-place : (memory : Memory) → Fit s memory → AllInPlace rules (gridOf s memory)
+  all-in-place memory h q l = in-place s fair (stateOf memory q) (h .in-range .records q l)
 
   -- who reaches anywhere is out
   reaches-out : (state : State) → 0 < columnReach (standOf (width s) state) → T (isOut state)
@@ -87,10 +90,10 @@ module _ (s : Settings) (fair : T (permitted s)) where
       go : (outcome : Outcome) → Called s event memory outcome → outOf s (outcome .memory .records) ≤ m → Good m (outcome .memory)
       go outcome (refused why) few = g
       go outcome (taken o) few = record {
-        sound = accept-sound s (limits s fair) (event .kind) (event .task .0) memory (g .sound) (o .below) (o .moment);
-        invariant = invariant-kept rules m (gridOf s memory) (gridOf s (accepted s event memory .memory))
-            (accepted-step s (limits s fair) memory (g .sound) (event .task .0) (o .below) (event .kind) (o .releases) (o .moment))
-            (all-in-place memory (g .sound)) (le-trans (cover-out (accepted s event memory .memory)) few) (g .invariant);
+        sound = accept-fits s fair (event .kind) (event .task .0) memory (g .sound) (o .known) (o .moment);
+        invariant = invariant-kept rules m (gridOf s memory) (gridOf s (ruled s event memory .memory))
+            (accepted-step s fair memory (g .sound) (event .task .0) (o .known) (event .kind) (o .lived) (o .moment))
+            (all-in-place memory (g .sound)) (le-trans (cover-out (ruled s event memory .memory)) few) (g .invariant);
       }
 
   -- ---- never more than k out
@@ -105,9 +108,9 @@ module _ (s : Settings) (fair : T (permitted s)) where
   release-out (Seeking r c point) e = tt
   release-out (Holding r c) e = tt
 
-  module _ (kind : Kind) (p : ℕ) (memory : Memory) (sound : Sound s memory) (below : p < s .n) where
+  module _ (kind : Kind) (p : ℕ) (memory : Memory) (sound : Fit s memory) (below : p < s .n) where
     still-out : (q : ℕ) → (q ≡ p → ⊥) → T (isOut (stateOf (accept s kind p (stateOf memory p) memory .memory) q)) → T (isOut (stateOf memory q))
-    still-out q d t = rw (others-after s (limits s fair) memory sound p below kind (stateOf memory p) q d) at t
+    still-out q d t = rw (others-after s fair memory sound p below kind (stateOf memory p) q d) at t
 
     pub one-more-out : outOf s (accept s kind p (stateOf memory p) memory .memory .records) ≤ suc (outOf s (memory .records))
     one-more-out =
@@ -123,16 +126,16 @@ module _ (s : Settings) (fair : T (permitted s)) where
         go q t (yes e) = rw e was
         go q t (no d) = still-out q d t
 
-  accepted-few : (kind : Kind) (p : ℕ) (memory : Memory) → Sound s memory → Open s (record { kind = kind; task = record { 0 = p } }) memory
+  accepted-few : (kind : Kind) (p : ℕ) (memory : Memory) → Fit s memory → May s (record { kind = kind; task = record { 0 = p } }) memory
       → outOf s (memory .records) ≤ s .k → outOf s (accept s kind p (stateOf memory p) memory .memory .records) ≤ s .k
   accepted-few Ask p memory sound o few =
-      le-trans (one-more-out Ask p memory sound (o .below)) (leb-false (s .k) (outOf s (memory .records)) (o .room))
+      le-trans (one-more-out Ask p memory sound (o .known)) (leb-false (s .k) (outOf s (memory .records)) (o .room))
   accepted-few Turn p memory sound o few =
-      le-trans (none-more-out Turn p memory sound (o .below) (turn-out (stateOf memory p) (o .moment))) few
+      le-trans (none-more-out Turn p memory sound (o .known) (turn-out (stateOf memory p) (o .moment))) few
   accepted-few Release p memory sound o few =
-      le-trans (none-more-out Release p memory sound (o .below) (release-out (stateOf memory p) (o .moment))) few
+      le-trans (none-more-out Release p memory sound (o .known) (release-out (stateOf memory p) (o .moment))) few
 
-  call-few : (event : Event) (memory : Memory) → Sound s memory → outOf s (memory .records) ≤ s .k
+  call-few : (event : Event) (memory : Memory) → Fit s memory → outOf s (memory .records) ≤ s .k
       → outOf s (call s event memory .memory .records) ≤ s .k
   call-few event memory sound few = go (call s event memory) (called s fair event memory sound)
     where
@@ -169,20 +172,20 @@ module _ (s : Settings) (lent : Memory) (ok : SetUp s lent) where
   pub fresh-unmarked : (r c place : ℕ) → gridOf s (setup s lent .memory) .mark r c place ≡ 0
   fresh-unmarked =
       rw (setup-memory s lent ok)
-      (all-unmarked s (limits s (setup-permitted s lent ok)) (fill (marksNeeded s) 0 (lent .marks))
+      (all-unmarked s (setup-within s lent ok) (fill (marksNeeded s) 0 (lent .marks))
       (λ i l. fill-at (marksNeeded s) i 0 0 (lent .marks) l))
 
   -- whatever the bound m
-  pub fresh-good : (m : ℕ) → Good s (setup-permitted s lent ok) m (setup s lent .memory)
+  pub fresh-good : (m : ℕ) → Good s (setup-within s lent ok) m (setup s lent .memory)
   fresh-good m = record {
-    sound = passes-sound s (setup s lent .memory) (fresh-passes s lent ok);
-    invariant = idle-invariant s (setup-permitted s lent ok) m (gridOf s (setup s lent .memory))
+    sound = fresh-fit s lent ok;
+    invariant = idle-invariant s (setup-within s lent ok) m (gridOf s (setup s lent .memory))
         (λ q l. ap (standOf (width s)) (fresh-idle s lent ok q l)) fresh-unmarked;
   }
 
-  pub fresh-fine : Fine s (setup-permitted s lent ok) (setup s lent .memory)
+  pub fresh-fine : Fine s (setup-within s lent ok) (setup s lent .memory)
   fresh-fine = record { good = fresh-good (s .k); few = rw (fresh-none-out s lent ok) zero-le }
 
-  pub always-fine : (events : List Event) → Fine s (setup-permitted s lent ok) (memoryAfter s lent events)
+  pub always-fine : (events : List Event) → Fine s (setup-within s lent ok) (memoryAfter s lent events)
   always-fine events =
-      run-keeps s (Fine s (setup-permitted s lent ok)) (fine-kept s (setup-permitted s lent ok)) events (setup s lent .memory) fresh-fine
+      run-keeps s (Fine s (setup-within s lent ok)) (fine-kept s (setup-within s lent ok)) events (setup s lent .memory) fresh-fine

@@ -8,12 +8,11 @@ use native.Mathlib.Decide.{decLt}
 use native.Mathlib.Omega.{arith}
 use lib.Dec.{T}
 use borrow.Author.Tests.{lt-leb}
-use Rattle.machine.specs.Settings.{permitted}
 use Rattle.machine.specs.Records.{isIdle, isSeeking}
 use Rattle.machine.specs.Memory.{Memory, stateOf, outOf}
 use Rattle.machine.specs.Answers.{isAccepted}
 use Rattle.machine.specs.Calls.{Outcome, nextState, accept, call, eventOf}
-use Rattle.machine.specs.Worst.{each}
+use Rattle.machine.proofs.Worst.{each}
 use Rattle.machine.specs.declared.Settings.{Settings}
 use Rattle.machine.specs.declared.Point.{Point}
 use Rattle.machine.specs.declared.State.{State}
@@ -21,13 +20,14 @@ use Rattle.machine.specs.declared.State.the-variants.{Idle, Seeking}
 use Rattle.machine.specs.declared.Kind.{Kind}
 use Rattle.machine.specs.declared.Kind.the-variants.{Ask, Turn}
 use Rattle.machine.specs.declared.Event.{Event}
-use Rattle.machine.proofs.Limits.{limits}
 use Rattle.machine.proofs.Steps.{caller-after, others-after}
-use Rattle.machine.proofs.Outcomes.{Open, accepted-answer, open-accepted}
+use Rattle.machine.proofs.Outcomes.{accepted-answer, may-accepted}
 use Rattle.machine.proofs.Histories.{Fine, fine-kept}
 use Rattle.machine.proofs.Leads.{Leads, leads-nowhere, leads-more, leads-append}
+use Rattle.machine.proofs.Passed.{May}
+use Rattle.machine.specs.Ranges.{WithinLimits}
 
-module _ (s : Settings) (fair : T (permitted s)) where
+module _ (s : Settings) (fair : WithinLimits s) where
   -- an accepted call of task p, whose record says `state`
   pub record Took (kind : Kind) (p : ℕ) (state : State) (m : Memory) : Type 0 where
     pub does : call s (eventOf kind p) m ≡ accept s kind p state m
@@ -54,31 +54,31 @@ module _ (s : Settings) (fair : T (permitted s)) where
     pub theirs : (q : ℕ) → q < n → stateOf last q ≡ state
     pub others : (q : ℕ) → n ≤ q → stateOf last q ≡ stateOf m q
 
-module _ {s : Settings} {fair : T (permitted s)} where
+module _ {s : Settings} {fair : WithinLimits s} where
   -- ---- one call
 
-  took : (kind : Kind) (p : ℕ) (state : State) (m : Memory) → Fine s fair m → stateOf m p ≡ state → Open s (eventOf kind p) m
+  took : (kind : Kind) (p : ℕ) (state : State) (m : Memory) → Fine s fair m → stateOf m p ≡ state → May s (eventOf kind p) m
       → Took s fair kind p state m
   took kind p state m f e o =
       let does : call s (eventOf kind p) m ≡ accept s kind p state m =
-      open-accepted s fair (eventOf kind p) m (f .good .sound) o ∙ ap (λ (z : State). accept s kind p z m) e in
+      may-accepted s fair (eventOf kind p) m (f .good .sound) o ∙ ap (λ (z : State). accept s kind p z m) e in
       record {
         does = does;
         says = subst (λ (z : State). T (isAccepted (accept s kind p z m .answer))) e (rw (accepted-answer s (eventOf kind p) m) tt);
         fine = rw (ap (λ (o : Outcome). o .memory) does) at (fine-kept s fair (eventOf kind p) m f);
-        its = caller-after s (limits s fair) m (f .good .sound) p (o .below) kind state;
-        others = others-after s (limits s fair) m (f .good .sound) p (o .below) kind state;
+        its = caller-after s fair m (f .good .sound) p (o .known) kind state;
+        others = others-after s fair m (f .good .sound) p (o .known) kind state;
       }
 
   pub turn-took : (p r c : ℕ) (point : Point) (m : Memory) → Fine s fair m → p < s .n → stateOf m p ≡ Seeking r c point
       → Took s fair Turn p (Seeking r c point) m
   turn-took p r c point m f l e =
-      took Turn p (Seeking r c point) m f e (record { below = l; releases = refl; moment = ap (λ (z : State). not (isSeeking z)) e; room = refl })
+      took Turn p (Seeking r c point) m f e (record { known = l; lived = refl; moment = ap (λ (z : State). not (isSeeking z)) e; room = refl })
 
   pub ask-took : (p : ℕ) (m : Memory) → Fine s fair m → p < s .n → outOf s (m .records) < s .k → stateOf m p ≡ Idle → Took s fair Ask p Idle m
   ask-took p m f l few e =
       took Ask p Idle m f e
-      (record { below = l; releases = refl; moment = ap (λ (z : State). not (isIdle z)) e; room = lt-leb (s .k) (outOf s (m .records)) few })
+      (record { known = l; lived = refl; moment = ap (λ (z : State). not (isIdle z)) e; room = lt-leb (s .k) (outOf s (m .records)) few })
 
   -- ---- one task, and then the next
 

@@ -2,13 +2,11 @@
 
 -- tests and numbers
 pub mod Tests
-pub mod Bools
-pub mod Tested
 pub mod Limits
 pub mod Ranges
 pub mod Turning
-pub mod Triangle
-pub mod Searching
+pub mod Numbering
+pub mod Numbers
 pub mod Determined
 -- what an accepted setup leaves
 pub mod Fresh
@@ -18,6 +16,7 @@ pub mod Deciding
 pub mod Lines
 pub mod BadValue
 pub mod Refusing
+pub mod Passed
 pub mod Passing
 pub mod Rules
 pub mod OneAccess
@@ -27,27 +26,18 @@ pub mod SettingUp
 pub mod Telling
 pub mod Lent
 -- demand 3: `Demand3` is where to begin
-pub mod Counting
-pub mod Cover
-pub mod Stands
-pub mod Moves
-pub mod Marks
-pub mod Witnesses
-pub mod Holders
-pub mod Covered
-pub mod Invariant
 pub mod Arriving
 pub mod Seen
-pub mod Sound
+pub mod Fitting
 pub mod Steps
 pub mod Outcomes
 pub mod Histories
 pub mod Names
 pub mod Told
 pub mod Seekers
-pub mod Spent
 pub mod Served
 pub mod Leads
+pub mod Worst
 pub mod WorstTurns
 pub mod Laps
 pub mod WorstRun

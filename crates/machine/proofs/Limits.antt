@@ -8,7 +8,7 @@ use lib.Dec.{T, eqb}
 use Rattle.machine.specs.Settings.{permitted, width}
 use Rattle.machine.specs.Ranges.{WithinLimits}
 use Rattle.machine.specs.declared.Settings.{Settings}
-use Rattle.machine.proofs.Tested.{Tested, most, both, meaning}
+use Rattle.counting.proofs.Tested.{Tested, most, both, meaning}
 
 pub zero-or-one : (mode : ℕ) → (mode ≤ 1) ↔ ((mode ≡ 0) ⊎ (mode ≡ 1))
 zero-or-one mode = (there mode, ⊎-elim (λ e. omega arith) (λ e. omega arith))

@@ -7,9 +7,11 @@ use native.Mathlib.Omega.{arith}
 use lib.Dec.{leb, ltb}
 use lib.ListN.{length, getD}
 use Rattle.machine.specs.Settings.{width}
-use Rattle.machine.specs.Places.{half, blocks}
+use Rattle.grid.specs.Triangle.{half}
+use Rattle.machine.specs.Places.{blocks}
 use Rattle.machine.specs.Records.{isIdle, isSeeking, isHolding, isOut, pointInRange, stateInRange, recordInRange}
-use Rattle.machine.specs.Memory.{Memory, marksNeeded, recordOf, stateOf, xInRange, markInRange, count, outOf}
+use Rattle.counting.specs.Counting.{count}
+use Rattle.machine.specs.Memory.{Memory, marksNeeded, recordOf, stateOf, xInRange, markInRange, outOf}
 use Rattle.machine.specs.Refusals.{rowShort, oneTimeRelease, wrongMoment, tooManyOut}
 use Rattle.machine.specs.Ranges.{WithinLimits, NeedsMore, PointWithin, StateWithin, BadAt, seeksOrHolds}
 use Rattle.machine.specs.declared.Settings.{Settings}
@@ -22,8 +24,8 @@ use Rattle.machine.specs.declared.Kind.the-variants.{Ask, Turn, Release}
 use Rattle.machine.specs.declared.Row.{Row}
 use Rattle.machine.specs.declared.Row.the-variants.{Records, Xs, Marks}
 use Rattle.machine.specs.Refusing.{SomeRowShort, NotTheMoment, tasksOut}
-use Rattle.machine.proofs.Tested.{Tested, below, most, same, both, either, fails, meaning, always, never}
-use Rattle.machine.proofs.Searching.{count-same}
+use Rattle.counting.proofs.Tested.{Tested, below, most, same, both, either, fails, meaning, always, never}
+use Rattle.counting.proofs.Searching.{count-same}
 
 -- ---- 2: a lent row is shorter than needed
 

@@ -4,23 +4,23 @@ use mathlib.Core.List.{List}
 use Prim.Native.Nat.{ℕ, _+_, _<_}
 use native.Mathlib.Omega.{arith}
 use lib.Dec.{T}
-use Rattle.machine.specs.Settings.{permitted}
 use Rattle.machine.specs.Memory.{Memory, stateOf}
 use Rattle.machine.specs.Demands.{SetUp, memoryAfter}
 use Rattle.machine.specs.declared.Settings.{Settings}
 use Rattle.machine.specs.declared.State.the-variants.{Holding}
 use Rattle.machine.specs.declared.Event.{Event}
-use Rattle.machine.proofs.Fresh.{setup-permitted}
-use Rattle.machine.proofs.Stands.{InPlace, at, holding}
-use Rattle.machine.proofs.Invariant.{AllInPlace, one-holder}
+use Rattle.machine.proofs.Fresh.{setup-within}
+use Rattle.grid.proofs.Stands.{InPlace, at, holding}
+use Rattle.grid.proofs.Invariant.{AllInPlace, one-holder}
 use Rattle.machine.proofs.Seen.{gridOf}
 use Rattle.machine.proofs.Histories.{rules, all-in-place, Fine, always-fine}
+use Rattle.machine.specs.Ranges.{WithinLimits}
 
 -- ---- where a task holds
 
 module _ (s : Settings) (lent : Memory) (events : List Event) (ok : SetUp s lent) where
-  abbrev fair : T (permitted s)
-  fair = setup-permitted s lent ok
+  abbrev fair : WithinLimits s
+  fair = setup-within s lent ok
 
   fine : Fine s fair (memoryAfter s lent events)
   fine = always-fine s lent ok events

@@ -22,46 +22,33 @@ use Rattle.machine.specs.declared.Event.{Event}
 use Rattle.machine.specs.Ranges.{WithinLimits, StateWithin}
 use Rattle.machine.proofs.Ranges.{scans-a-mark}
 use Rattle.machine.proofs.Lines.{point-line, state-line}
-use Rattle.machine.proofs.Triangle.{block-numbering}
 use Rattle.machine.specs.OneAccess.{XNeeded, MarkNeeded, touches, RegisterNeeded, EachOneAccess, accessOf}
-use Rattle.machine.proofs.Cells.{earlier-block}
-use Rattle.machine.proofs.Passing.{Passed}
+use Rattle.machine.proofs.Seen.{own-below, block-below, mark-below}
+use Rattle.machine.proofs.Passed.{Passed}
 
 -- ---- which register
 
 module _ (s : Settings) (l : WithinLimits s) (p : ℕ) (low : p < s .n) where
-  needed-x : (r c : ℕ) → r + c + 2 ≤ s .k → XNeeded s (blockNumber s r c)
-  needed-x r c b = block-numbering s (l .k-least) .below r c (omega arith)
-
   needed-mark : (r c place : ℕ) → r + c + 2 ≤ s .k → place < width s → MarkNeeded s (blockNumber s r c) place
-  needed-mark r c place l h =
-      let b = needed-x r c l in
-      (b, h, earlier-block (width s) (blockNumber s r c) place (blocks s) b h)
-
-  own-mark : own s p < width s
-  own-mark = go (eqb (s .mode) 0)
-    where
-      go : (b : Bool) → cond b 0 p < cond b 1 (s .n)
-      go true = omega arith
-      go false = low
+  needed-mark r c place b h = (block-below s l r c b, h, mark-below s l r c place b h)
 
   point-one : (r c : ℕ) (point : Point) → r + c + 2 ≤ s .k → T (pointInRange s point)
       → T (touches (pointAccess s p r c point)) × RegisterNeeded s (pointAccess s p r c point)
-  point-one r c WriteX l t = (tt, needed-x r c l)
-  point-one r c (Scan h) l t = (tt, needed-mark r c h l (scans-a-mark s (Scan h) h t refl))
-  point-one r c WriteMark l t = (tt, needed-mark r c (own s p) l own-mark)
-  point-one r c ReadX l t = (tt, needed-x r c l)
-  point-one r c (Clear direction) l t = (tt, needed-mark r c (own s p) l own-mark)
+  point-one r c WriteX b t = (tt, block-below s l r c b)
+  point-one r c (Scan h) b t = (tt, needed-mark r c h b (scans-a-mark s (Scan h) h t refl))
+  point-one r c WriteMark b t = (tt, needed-mark r c (own s p) b (own-below s l p low))
+  point-one r c ReadX b t = (tt, block-below s l r c b)
+  point-one r c (Clear direction) b t = (tt, needed-mark r c (own s p) b (own-below s l p low))
 
   turn-one : (r c : ℕ) (point : Point) → StateWithin s (Seeking r c point)
       → T (touches (access s Turn p (Seeking r c point))) × RegisterNeeded s (access s Turn p (Seeking r c point))
   turn-one r c point good = point-one r c point (good .0) (point-line s l point .shows (good .1))
 
 pub one-access : EachOneAccess
-one-access s ok p low = record {
+one-access s l p low = record {
   ask = λ state. refl;
-  turn = turn-one s ok p low;
-  release-block = λ r c l. (rw (le-leb (r + c + 2) (s .k) l), needed-mark s ok p low r c (own s p) l (own-mark s ok p low));
+  turn = turn-one s l p low;
+  release-block = λ r c b. (rw (le-leb (r + c + 2) (s .k) b), needed-mark s l p low r c (own s p) b (own-below s l p low));
   release-edge = λ r c e. rw (lt-leb (r + c + 2) (s .k) (let z : s .k < r + c + 2 = omega arith in z));
 }
 
@@ -87,4 +74,5 @@ module _ (s : Settings) (l : WithinLimits s) (p : ℕ) (low : p < s .n) where
 
 -- of a call that passed its tests
 pub call-needed : (s : Settings) (event : Event) (m : Memory) → Passed s event m → RegisterNeeded s (accessOf s event m)
-call-needed s event m h = access-needed s (h .lent .limits) (event .task .0) (h .task) (event .kind) (stateOf m (event .task .0)) (h .in-range)
+call-needed s event m h = access-needed s (h .limits) (event .task .0) (h .may .known) (event .kind) (stateOf m (event .task .0))
+    (h .fit .in-range .records (event .task .0) (h .may .known))

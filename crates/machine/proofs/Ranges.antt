@@ -9,7 +9,7 @@ use Rattle.machine.specs.declared.Point.{Point}
 use Rattle.machine.specs.declared.Point.the-variants.{Scan}
 use Rattle.machine.specs.declared.State.{State}
 use Rattle.machine.specs.declared.State.the-variants.{Seeking}
-use Rattle.machine.proofs.Bools.{and-l, and-r}
+use Rattle.counting.proofs.Bools.{and-l, and-r}
 
 module _ (s : Settings) (state : State) (r c : ℕ) (point : Point) (good : T (stateInRange s state)) (is : state ≡ Seeking r c point) where
   -- a task that seeks does so on a block

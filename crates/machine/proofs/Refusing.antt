@@ -25,7 +25,7 @@ use Rattle.machine.specs.declared.View.{View}
 use Rattle.machine.specs.declared.Verdict.{Verdict}
 use Rattle.machine.specs.declared.Answer.{Answer}
 use Rattle.machine.specs.declared.Answer.the-variants.{Done, Seeks, Holds, Freed, Refused}
-use Rattle.machine.proofs.Tested.{most, fails, passes, misses, cannot-fail}
+use Rattle.counting.proofs.Tested.{most, fails, passes, misses, cannot-fail}
 use Rattle.machine.proofs.Limits.{limits-tested}
 use Rattle.machine.proofs.Lines.{short-line, release-line, moment-line, out-line}
 use Rattle.machine.proofs.BadValue.{found-line, first-found}
@@ -165,7 +165,7 @@ setup-exactly s m =
     (lentCases s (viewOf s (m .records) 0) (m .xs) (m .marks) []) (setupLines s m) (lent-are s 0 m [] [] (λ l. tt))
 
 pub refusal-exact : RefusalExact
-refusal-exact = record { calls = call-refused; setups = setup-exactly; acceptance = accepted-zero }
+refusal-exact = record { calls = call-refused; setups = setup-exactly; acceptance = accepted-zero; numbered = λ why. refl }
 
 -- ---- a refusal changes nothing
 

@@ -1,12 +1,13 @@
 -- The definitions, which say both modes at once, follow 01's rules in each, and the lines of these rules leave no accepted call out.
 use mathlib.Core.Path.{_≡_, refl, sym, ap, subst, _∙_}
+use mathlib.Core.Bool.{false, true≢false}
 use mathlib.Core.Logic.{_⊎_, inl, inr}
 use Prim.Native.Nat.{ℕ, _+_, _*_, _≤_, _<_}
 use native.Mathlib.Decide.{ℕ-discrete}
 use native.Mathlib.Omega.{arith}
 use lib.Dec.{T, leb→le, ltb→lt, eqb→eq}
 use lib.ListN.{getD}
-use borrow.Author.Tests.{le-leb, lt-leb}
+use borrow.Author.Tests.{le-leb, lt-leb, eqb-false}
 use Rattle.machine.specs.Settings.{width, own}
 use Rattle.machine.specs.Places.{blockNumber}
 use Rattle.machine.specs.Records.{pointInRange, stateInRange}
@@ -31,7 +32,8 @@ use Rattle.machine.proofs.Turning as turning
 use Rattle.machine.proofs.Arriving.{arrive-edge, arrive-block, leave-at-once, leave-clearing}
 use Rattle.machine.proofs.Ranges.{seeks-on-block, seeks-at-point}
 use Rattle.machine.proofs.Seen.{width-one-time, width-long-lived, own-one-time, own-long-lived, mark-below}
-use Rattle.machine.proofs.Passing.{Passed, passed, by-the-rules}
+use Rattle.machine.proofs.Passing.{passed, by-the-rules}
+use Rattle.machine.proofs.Passed.{Passed}
 
 -- ---- in either mode
 
@@ -176,7 +178,7 @@ module _ (s : Settings) (p : ℕ) (m : Memory) where
     tests = passed s (turn p) m t
 
     abbrev fair : WithinLimits s
-    fair = tests .lent .limits
+    fair = tests .limits
 
     abbrev Spoken : Type 0
     Spoken = Says s p m Turn (call s (turn p) m)
@@ -189,7 +191,7 @@ module _ (s : Settings) (p : ℕ) (m : Memory) where
           first = let w = width-one-time s once in omega arith
 
           mark : getD (m .marks) (markIndex s (blockNumber s r c) 0) 0 ≤ 1
-          mark = leb→le _ 1 (tests .marks _ (mark-below s fair r c 0 (at .on-block) (rw first at low)))
+          mark = leb→le _ 1 (tests .fit .in-range .marks _ (mark-below s fair r c 0 (at .on-block) (rw first at low)))
 
           at-first : SeeksAt s p m r c (Scan 0)
           at-first = subst (λ (q : ℕ). SeeksAt s p m r c (Scan q)) first at
@@ -203,7 +205,7 @@ module _ (s : Settings) (p : ℕ) (m : Memory) where
           below = rw (width-long-lived s long) at low
 
           mark : getD (m .marks) (markIndex s (blockNumber s r c) h) 0 ≤ 1
-          mark = leb→le _ 1 (tests .marks _ (mark-below s fair r c h (at .on-block) low))
+          mark = leb→le _ 1 (tests .fit .in-range .marks _ (mark-below s fair r c h (at .on-block) low))
 
           go : (longMark s m r c h ≡ 0) ⊎ (longMark s m r c h ≡ 1) → Dec (h + 1 ≡ s .n) → Spoken
           go (inl e) (yes last) = spoken Turn t _ (long-scan-last long at last e)
@@ -240,21 +242,21 @@ module _ (s : Settings) (p : ℕ) (m : Memory) where
   -- ---- by the record of the task
 
   by-record : (kind : Kind) → AcceptedIn s (eventOf kind p) m → Passed s (eventOf kind p) m
-      → (state : State) → stateOf m p ≡ state → T (stateInRange s state) → (T (wrongMoment kind state) → ⊥) → Says s p m kind (call s (eventOf kind p) m)
-  by-record Ask t ok Idle is good moment = spoken Ask t _ (asks is (arrival 0 0 m (ok .lent .limits .k-least)))
-  by-record Ask t ok (Seeking r c point) is good moment = absurd (moment tt)
-  by-record Ask t ok (Holding r c) is good moment = absurd (moment tt)
-  by-record Turn t ok Idle is good moment = absurd (moment tt)
+      → (state : State) → stateOf m p ≡ state → T (stateInRange s state) → wrongMoment kind state ≡ false → Says s p m kind (call s (eventOf kind p) m)
+  by-record Ask t ok Idle is good moment = spoken Ask t _ (asks is (arrival 0 0 m (ok .limits .k-least)))
+  by-record Ask t ok (Seeking r c point) is good moment = absurd (true≢false moment)
+  by-record Ask t ok (Holding r c) is good moment = absurd (true≢false moment)
+  by-record Turn t ok Idle is good moment = absurd (true≢false moment)
   by-record Turn t ok (Seeking r c point) is good moment =
       turn-spoken t r c point (record { stands = is; on-block = seeks-on-block s (Seeking r c point) r c point good refl })
       (seeks-at-point s (Seeking r c point) r c point good refl)
-  by-record Turn t ok (Holding r c) is good moment = absurd (moment tt)
-  by-record Release t ok Idle is good moment = absurd (moment tt)
-  by-record Release t ok (Seeking r c point) is good moment = absurd (moment tt)
+  by-record Turn t ok (Holding r c) is good moment = absurd (true≢false moment)
+  by-record Release t ok Idle is good moment = absurd (true≢false moment)
+  by-record Release t ok (Seeking r c point) is good moment = absurd (true≢false moment)
   by-record Release t ok (Holding r c) is good moment =
-      release-spoken t r c (omega (arith, ok .releases refl, mode-most s (ok .lent .limits))) is (leb→le (r + c + 1) (s .k) good)
+      release-spoken t r c (omega (arith, eqb-false (s .mode) 0 (ok .may .lived), mode-most s (ok .limits))) is (leb→le (r + c + 1) (s .k) good)
 
 pub each-spoken-of : EachSpokenOf
 each-spoken-of s p m kind t =
     let ok = passed s (eventOf kind p) m t in
-    by-record s p m kind t ok (stateOf m p) refl (ok .in-range) (ok .moment)
+    by-record s p m kind t ok (stateOf m p) refl (ok .fit .in-range .records p (ok .may .known)) (ok .may .moment)

@@ -13,12 +13,13 @@ use Rattle.machine.specs.declared.Settings.{Settings}
 use Rattle.machine.specs.declared.State.{State}
 use Rattle.machine.specs.declared.State.the-variants.{Idle, Seeking, Holding}
 use Rattle.machine.specs.declared.Event.{Event}
-use Rattle.machine.proofs.Fresh.{setup-permitted}
-use Rattle.machine.proofs.Outcomes.{Open, accepted-answer, open-accepted}
+use Rattle.machine.proofs.Fresh.{setup-within}
+use Rattle.machine.proofs.Outcomes.{accepted-answer, may-accepted}
 use Rattle.machine.proofs.Histories.{always-fine}
+use Rattle.machine.proofs.Passed.{May}
 
-pub seeker-open : (s : Settings) (m : Memory) (p : ℕ) → p < s .n → T (isSeeking (stateOf m p)) → Open s (turn p) m
-seeker-open s m p l t = record { below = l; releases = refl; moment = seeking (stateOf m p) t; room = refl }
+pub seeker-may : (s : Settings) (m : Memory) (p : ℕ) → p < s .n → T (isSeeking (stateOf m p)) → May s (turn p) m
+seeker-may s m p l t = record { known = l; lived = refl; moment = seeking (stateOf m p) t; room = refl }
   where
     seeking : (state : State) → T (isSeeking state) → not (isSeeking state) ≡ false
     seeking Idle t = absurd t
@@ -29,5 +30,5 @@ pub seeker-accepted : (s : Settings) (lent : Memory) (events : List Event) → S
     → T (isAccepted (call s (turn p) (memoryAfter s lent events) .answer))
 seeker-accepted s lent events ok p l t =
     let m = memoryAfter s lent events in
-    let taken = open-accepted s (setup-permitted s lent ok) (turn p) m (always-fine s lent ok events .good .sound) (seeker-open s m p l t) in
+    let taken = may-accepted s (setup-within s lent ok) (turn p) m (always-fine s lent ok events .good .sound) (seeker-may s m p l t) in
     rw (taken, accepted-answer s (turn p) m) tt

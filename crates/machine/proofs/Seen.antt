@@ -16,14 +16,17 @@ use Rattle.machine.specs.Settings.{width, own}
 use Rattle.machine.specs.Places.{blocks, blockNumber}
 use Rattle.machine.specs.Memory.{Memory, marksNeeded, markIndex, stateOf}
 use Rattle.machine.specs.declared.Settings.{Settings}
+use Rattle.machine.specs.declared.Direction.{Direction}
+use Rattle.machine.specs.declared.Direction.the-variants.{Right, Down}
 use Rattle.machine.specs.declared.Point.{Point}
 use Rattle.machine.specs.declared.Point.the-variants.{WriteX, Scan, WriteMark, ReadX, Clear}
 use Rattle.machine.specs.declared.State.{State}
 use Rattle.machine.specs.declared.State.the-variants.{Idle, Seeking, Holding}
 use Rattle.machine.specs.Ranges.{WithinLimits}
-use Rattle.machine.proofs.Triangle.{block-numbering}
-use Rattle.machine.proofs.Stands.{Rules, Stage, fresh, mid, going, holding, Stand, idle, at, Grid}
-use Rattle.machine.proofs.Moves.{PutX, PutMark}
+use Rattle.machine.proofs.Cells.{earlier-block}
+use Rattle.machine.proofs.Numbering.{block-numbering}
+use Rattle.grid.proofs.Stands.{Way, right, down, Rules, Stage, fresh, mid, going, holding, Stand, idle, at, Grid}
+use Rattle.grid.proofs.Moves.{PutX, PutMark}
 
 -- ---- the settings as rules
 
@@ -68,12 +71,16 @@ rulesOf s l = record {
 
 -- ---- the memory as a grid
 
+abbrev pub wayOf : Direction → Way
+wayOf Right = right
+wayOf Down = down
+
 abbrev pub stageOf : ℕ → Point → Stage
 stageOf W WriteX = fresh
 stageOf W (Scan h) = mid h
 stageOf W WriteMark = mid W
 stageOf W ReadX = mid (W + 1)
-stageOf W (Clear d) = going d
+stageOf W (Clear d) = going (wayOf d)
 
 abbrev pub standOf : ℕ → State → Stand
 standOf W Idle = idle
@@ -101,9 +108,6 @@ pub mark-on-block : (s : Settings) (marks : List ℕ) (r c place : ℕ) → r + 
 mark-on-block s marks r c place b h = rw (le-leb (r + c + 2) (s .k) b, lt-ltb place (width s) h)
 
 -- ---- block after block
-
-index-below : (W count b place : ℕ) → b < count → place < W → b * W + place < count * W
-index-below W count b place h l = omega (arith, mul-le-mul-right W h)
 
 index-apart : (W a i b j : ℕ) → i < W → j < W → a * W + i ≡ b * W + j → (a ≡ b) × (i ≡ j)
 index-apart W a i b j h l e = go (decLt a b) (decLt b a)
@@ -134,7 +138,7 @@ module _ (s : Settings) (l : WithinLimits s) where
   block-apart r c i j b h = block-numbering s (l .k-least) .apart r c i j (omega arith) (omega arith)
 
   pub mark-below : (r c place : ℕ) → r + c + 2 ≤ s .k → place < width s → markIndex s (blockNumber s r c) place < marksNeeded s
-  mark-below r c place b h = index-below (width s) (blocks s) (blockNumber s r c) place (block-below r c b) h
+  mark-below r c place b h = earlier-block (width s) (blockNumber s r c) place (blocks s) (block-below r c b) h
 
   pub x-put : (m new : Memory) (i j value : ℕ) → i + j + 2 ≤ s .k → blocks s ≤ length (m .xs) → new .xs ≡ set (m .xs) (blockNumber s i j) value
       → PutX (gridOf s m) (gridOf s new) i j value

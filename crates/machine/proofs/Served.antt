@@ -9,15 +9,14 @@ use native.Mathlib.Nat.{le-trans, mul-le-mul-right}
 use native.Mathlib.Omega.{arith}
 use lib.Dec.{T, eqb}
 use borrow.Author.Tests.{eqb-true, eqb-false, eq-eqb, ne-eqb, not-false}
-use Rattle.machine.specs.Settings.{permitted, width}
+use Rattle.machine.specs.Settings.{width}
 use Rattle.machine.specs.Records.{isSeeking, isHolding}
 use Rattle.machine.specs.Memory.{Memory, stateOf}
 use Rattle.machine.specs.Answers.{isAccepted}
 use Rattle.machine.specs.Turn.{arrive}
 use Rattle.machine.specs.Refusals.{wrongMoment}
 use Rattle.machine.specs.Calls.{Outcome, accept, call, setup, turn}
-use Rattle.machine.specs.History.{run, Answered, history, counted, turnsOf}
-use Rattle.machine.specs.Worst.{turns}
+use Rattle.machine.specs.History.{run, Answered, history, counted, turnsOf, turns}
 use Rattle.machine.specs.Demands.{SetUp, memoryAfter, historyOf, used, Seeks, HoldsSome, bound}
 use Rattle.machine.specs.declared.Settings.{Settings}
 use Rattle.machine.specs.declared.Point.the-variants.{WriteX, Scan, WriteMark, ReadX, Clear}
@@ -26,17 +25,17 @@ use Rattle.machine.specs.declared.State.the-variants.{Idle, Seeking, Hol
 use Rattle.machine.specs.declared.Kind.{Kind}
 use Rattle.machine.specs.declared.Kind.the-variants.{Ask, Turn, Release}
 use Rattle.machine.specs.declared.Event.{Event}
-use Rattle.machine.proofs.Limits.{limits}
 use Rattle.machine.specs.Ranges.{WithinLimits}
-use Rattle.machine.proofs.Fresh.{setup-permitted, fresh-idle}
-use Rattle.machine.proofs.Stands.{Rules, Stand, idle, at, InPlace}
+use Rattle.machine.proofs.Fresh.{setup-within, fresh-idle}
+use Rattle.grid.proofs.Stands.{Rules, Stand, idle, at, InPlace}
 use Rattle.machine.proofs.Seen.{rulesOf, standOf}
-use Rattle.machine.proofs.Sound.{Sound}
 use Rattle.machine.proofs.Steps.{arrives, in-place, caller-after, others-after, caller-moves}
-use Rattle.machine.proofs.Outcomes.{Called, taken, refused, accepted, accepted-answer, called, open-accepted}
+use Rattle.machine.proofs.Outcomes.{Called, taken, refused, accepted-answer, called, may-accepted}
 use Rattle.machine.proofs.Histories.{rules, all-in-place, Fine, fine-kept, fresh-fine, always-fine, run-append, history-append}
-use Rattle.machine.proofs.Seekers.{seeker-open}
-use Rattle.machine.proofs.Spent.{cost, Within, OutWithin, SeeksAt, arrives-within, turn-within, seeking-within, holding-within}
+use Rattle.machine.proofs.Seekers.{seeker-may}
+use Rattle.grid.proofs.Spent.{cost, Within, OutWithin, SeeksAt, arrives-within, turn-within, seeking-within, holding-within}
+use Rattle.machine.proofs.Passed.{Fit}
+use Rattle.machine.proofs.Refusing.{ruled}
 
 -- ---- records and stands
 
@@ -68,7 +67,7 @@ bound-enough s l = go (l .modes)
 
 -- ---- each call
 
-module _ (s : Settings) (fair : T (permitted s)) (p : ℕ) (m : Memory) (sound : Sound s m) (t : ℕ) where
+module _ (s : Settings) (fair : WithinLimits s) (p : ℕ) (m : Memory) (sound : Fit s m) (t : ℕ) where
   -- task p may have taken t turns
   abbrev Used : Memory → ℕ → Type 0
   Used memory count = Within (rules s fair) (standOf (width s) (stateOf memory p)) count
@@ -77,20 +76,20 @@ module _ (s : Settings) (fair : T (permitted s)) (p : ℕ) (m : Memory) (sound :
   own-turn-within : p < s .n → T (isSeeking (stateOf m p)) → Used m t
       → OutWithin (rules s fair) (standOf (width s) (stateOf (accept s Turn p (stateOf m p) m .memory) p)) (t + 1)
   own-turn-within l seeks h =
-      rw (caller-after s (limits s fair) m sound p l Turn (stateOf m p))
-      (turn-within (rules s fair) t (caller-moves s (limits s fair) m sound p l Turn refl (seeker-open s m p l seeks .moment) .1)
-      (seeks-at (width s) (stateOf m p) seeks) (in-place s (limits s fair) (stateOf m p) (sound .records-good p l)) h)
+      rw (caller-after s fair m sound p l Turn (stateOf m p))
+      (turn-within (rules s fair) t (caller-moves s fair m sound p l Turn refl (seeker-may s m p l seeks .moment) .1)
+      (seeks-at (width s) (stateOf m p) seeks) (in-place s fair (stateOf m p) (sound .in-range .records p l)) h)
 
   own-call-within : (kind : Kind) → p < s .n → wrongMoment kind (stateOf m p) ≡ false → Used m t
       → Used (accept s kind p (stateOf m p) m .memory) (counted kind t)
   own-call-within Ask l e h =
-      rw (caller-after s (limits s fair) m sound p l Ask (stateOf m p))
+      rw (caller-after s fair m sound p l Ask (stateOf m p))
       (out-within (rules s fair) (standOf (width s) (arrive s 0 0)) 0
-      (arrives-within (rules s fair) 0 (arrives s (limits s fair) 0 0 (limits s fair .k-least)) zero-le))
+      (arrives-within (rules s fair) 0 (arrives s fair 0 0 (fair .k-least)) zero-le))
   own-call-within Turn l e h =
       out-within (rules s fair) (standOf (width s) (stateOf (accept s Turn p (stateOf m p) m .memory) p)) (t + 1)
       (own-turn-within l (rw (not-false (isSeeking (stateOf m p)) e) tt) h)
-  own-call-within Release l e h = rw (caller-after s (limits s fair) m sound p l Release (stateOf m p)) tt
+  own-call-within Release l e h = rw (caller-after s fair m sound p l Release (stateOf m p)) tt
 
   call-within : (event : Event) → Used m t
       → Used (call s event m .memory) (cond (isAccepted (call s event m .answer) && eqb (event .task .0) p) (counted (event .kind) t) t)
@@ -102,15 +101,15 @@ module _ (s : Settings) (fair : T (permitted s)) (p : ℕ) (m : Memory) (sound :
       go outcome (taken o) true e =
           let z : event .task .0 ≡ p = eqb-true (event .task .0) p e in
           rw (accepted-answer s event m, z)
-          (own-call-within (event .kind) (rw z at (o .below)) (rw z at (o .moment)) h)
+          (own-call-within (event .kind) (rw z at (o .known)) (rw z at (o .moment)) h)
       go outcome (taken o) false e =
           let d : p ≡ event .task .0 → ⊥ = λ f. eqb-false (event .task .0) p e (sym f) in
           rw (
             accepted-answer s event m,
-            others-after s (limits s fair) m sound (event .task .0) (o .below) (event .kind) (stateOf m (event .task .0)) p d,
+            others-after s fair m sound (event .task .0) (o .known) (event .kind) (stateOf m (event .task .0)) p d,
           ) h
 
-turns-within : (s : Settings) (fair : T (permitted s)) (p : ℕ) (events : List Event) (m : Memory) (t : ℕ) → Fine s fair m
+turns-within : (s : Settings) (fair : WithinLimits s) (p : ℕ) (events : List Event) (m : Memory) (t : ℕ) → Fine s fair m
     → Within (rules s fair) (standOf (width s) (stateOf m p)) t
     → Within (rules s fair) (standOf (width s) (stateOf (run s events m) p)) (turnsOf p (history s events m) t)
 turns-within s fair p [] m t f h = h
@@ -124,10 +123,10 @@ turns-append p [] more t = refl
 turns-append p (one ∷ done) more t = turns-append p done more _
 
 module _ (s : Settings) (lent : Memory) (ok : SetUp s lent) (p : ℕ) (l : p < s .n) where
-  abbrev fair : T (permitted s)
-  fair = setup-permitted s lent ok
+  abbrev fair : WithinLimits s
+  fair = setup-within s lent ok
 
-  sound : (events : List Event) → Sound s (memoryAfter s lent events)
+  sound : (events : List Event) → Fit s (memoryAfter s lent events)
   sound events = always-fine s lent ok events .good .sound
 
   pub always-within : (events : List Event) → Within (rules s fair) (standOf (width s) (stateOf (memoryAfter s lent events) p)) (used s lent events p)
@@ -138,13 +137,13 @@ module _ (s : Settings) (lent : Memory) (ok : SetUp s lent) (p : ℕ) (l : p < s
   seeking-used events seeks =
       le-trans (seeking-within (rules s fair) (standOf (width s) (stateOf (memoryAfter s lent events) p)) (used s lent events p)
       (seeks-at (width s) (stateOf (memoryAfter s lent events) p) seeks) (all-in-place s fair (memoryAfter s lent events) (sound events) p l)
-      (always-within events)) (bound-enough s (limits s fair))
+      (always-within events)) (bound-enough s fair)
 
   pub holding-used : (events : List Event) → HoldsSome (memoryAfter s lent events) p → used s lent events p ≤ bound s
   holding-used events holds =
       le-trans (go (stateOf (memoryAfter s lent events) p) holds (all-in-place s fair (memoryAfter s lent events) (sound events) p l)
       (always-within events))
-      (bound-enough s (limits s fair))
+      (bound-enough s fair)
     where
       go : (state : State) → T (isHolding state) → InPlace (rules s fair) (standOf (width s) state)
           → Within (rules s fair) (standOf (width s) state) (used s lent events p)
@@ -159,9 +158,9 @@ module _ (s : Settings) (lent : Memory) (ok : SetUp s lent) (p : ℕ) (l : p < s
   andTurn events = events ++ (turn p ∷ [])
 
   turn-taken : (events : List Event) → Seeks (memoryAfter s lent events) p
-      → call s (turn p) (memoryAfter s lent events) ≡ accepted s (turn p) (memoryAfter s lent events)
+      → call s (turn p) (memoryAfter s lent events) ≡ ruled s (turn p) (memoryAfter s lent events)
   turn-taken events seeks =
-      open-accepted s fair (turn p) (memoryAfter s lent events) (sound events) (seeker-open s (memoryAfter s lent events) p l seeks)
+      may-accepted s fair (turn p) (memoryAfter s lent events) (sound events) (seeker-may s (memoryAfter s lent events) p l seeks)
 
   one-more-used : (events : List Event) → Seeks (memoryAfter s lent events) p → used s lent (andTurn events) p ≡ used s lent events p + 1
   one-more-used events seeks =
@@ -174,7 +173,7 @@ module _ (s : Settings) (lent : Memory) (ok : SetUp s lent) (p : ℕ) (l : p < s
   seeks-or-holds events seeks =
       rw (run-append s events (turn p ∷ []) (setup s lent .memory) ∙ ap (λ (outcome : Outcome). outcome .memory) (turn-taken events seeks))
       (out-seeks-or-holds (rules s fair) (width s) (used s lent events p + 1)
-      (stateOf (accepted s (turn p) (memoryAfter s lent events) .memory) p)
+      (stateOf (ruled s (turn p) (memoryAfter s lent events) .memory) p)
       (own-turn-within s fair p (memoryAfter s lent events) (sound events) (used s lent events p) l seeks (always-within events)))
 
   -- what is left of the bound is enough

@@ -30,15 +30,15 @@ use Rattle.machine.specs.declared.Access.{Access}
 use Rattle.machine.specs.declared.Access.the-variants.{NoAccess, XRead, XWritten, MarkRead, MarkWritten}
 use Rattle.machine.specs.declared.Kind.{Kind}
 use Rattle.machine.specs.declared.Kind.the-variants.{Ask, Turn, Release}
-use Rattle.machine.proofs.Bools.{and-l, and-r}
+use Rattle.counting.proofs.Bools.{and-l, and-r}
 use Rattle.machine.specs.Ranges.{WithinLimits}
 use Rattle.machine.proofs.Limits.{mode-most}
 use Rattle.machine.proofs.Turning.{scan-marked, scan-done, scan-on, reads-own, reads-other}
-use Rattle.machine.proofs.Stands.{Rules, mid, at, InPlace}
-use Rattle.machine.proofs.Moves.{Arrives, block, edge, Goes, Leaves, at-once, clearing, Move, Step, Effect, nothing, writes-x, writes-mark, XChange, MarkChange, asks, begins, passes, meets, marks, wins, loses, clears, frees, departs}
-use Rattle.machine.proofs.Seen.{own-below, rulesOf, stageOf, standOf, xAt, markAt, gridOf, x-on-block, mark-on-block, x-put, mark-put}
+use Rattle.grid.proofs.Stands.{Rules, mid, at, InPlace}
+use Rattle.grid.proofs.Moves.{Arrives, block, edge, Goes, Leaves, at-once, clearing, Move, Step, Effect, nothing, writes-x, writes-mark, XChange, MarkChange, asks, begins, passes, meets, marks, wins, loses, clears, frees, departs}
+use Rattle.machine.proofs.Seen.{wayOf, own-below, rulesOf, stageOf, standOf, xAt, markAt, gridOf, x-on-block, mark-on-block, x-put, mark-put}
 use Rattle.machine.proofs.Arriving.{arrive-edge, arrive-block, leave-at-once, leave-clearing, release-clears, release-nothing}
-use Rattle.machine.proofs.Sound.{Sound}
+use Rattle.machine.proofs.Passed.{Fit}
 
 -- ---- where a task comes to
 
@@ -50,17 +50,17 @@ module _ (s : Settings) (l : WithinLimits s) where
       go (yes e) = subst (λ (to : State). Arrives (s .k) r c (standOf (width s) to)) (arrive-edge s r c e) (edge e)
       go (no d) = subst (λ (to : State). Arrives (s .k) r c (standOf (width s) to)) (arrive-block s r c d) (block {r = r} {c = c} (omega arith))
 
-  goes : (r c : ℕ) (d : Direction) → r + c + 2 ≤ s .k → Goes (s .k) r c d (standOf (width s) (move s r c d))
+  goes : (r c : ℕ) (d : Direction) → r + c + 2 ≤ s .k → Goes (s .k) r c (wayOf d) (standOf (width s) (move s r c d))
   goes r c Right b = arrives r (c + 1) (omega arith)
   goes r c Down b = arrives (r + 1) c (omega arith)
 
-  leaves : (r c : ℕ) (d : Direction) → r + c + 2 ≤ s .k → Leaves (rulesOf s l) r c d (standOf (width s) (leave s r c d))
+  leaves : (r c : ℕ) (d : Direction) → r + c + 2 ≤ s .k → Leaves (rulesOf s l) r c (wayOf d) (standOf (width s) (leave s r c d))
   leaves r c d b = go (l .modes)
     where
-      go : (s .mode ≡ 0) ⊎ (s .mode ≡ 1) → Leaves (rulesOf s l) r c d (standOf (width s) (leave s r c d))
-      go (inl e) = subst (λ (to : State). Leaves (rulesOf s l) r c d (standOf (width s) to)) (leave-at-once s r c d e) (at-once e (goes r c d b))
+      go : (s .mode ≡ 0) ⊎ (s .mode ≡ 1) → Leaves (rulesOf s l) r c (wayOf d) (standOf (width s) (leave s r c d))
+      go (inl e) = subst (λ (to : State). Leaves (rulesOf s l) r c (wayOf d) (standOf (width s) to)) (leave-at-once s r c d e) (at-once e (goes r c d b))
       go (inr e) =
-          subst (λ (to : State). Leaves (rulesOf s l) r c d (standOf (width s) to)) (leave-clearing s r c d (λ z. omega arith)) (clearing e)
+          subst (λ (to : State). Leaves (rulesOf s l) r c (wayOf d) (standOf (width s) to)) (leave-clearing s r c d (λ z. omega arith)) (clearing e)
 
   -- a record in range stands in its place
   pub in-place : (state : State) → T (stateInRange s state) → InPlace (rulesOf s l) (standOf (width s) state)
@@ -88,7 +88,7 @@ records-after s (XWritten b v) m p new = refl
 records-after s (MarkRead b place) m p new = refl
 records-after s (MarkWritten b place v) m p new = refl
 
-module _ (s : Settings) (l : WithinLimits s) (m : Memory) (h : Sound s m) (p : ℕ) (below : p < s .n) where
+module _ (s : Settings) (l : WithinLimits s) (m : Memory) (h : Fit s m) (p : ℕ) (below : p < s .n) where
   abbrev rules : Rules
   rules = rulesOf s l
 
@@ -136,7 +136,7 @@ module _ (s : Settings) (l : WithinLimits s) (m : Memory) (h : Sound s m) (p : �
   turn-moved : (r c : ℕ) (point : Point) → r + c + 2 ≤ s .k → T (pointInRange s point) → Moved Turn (Seeking r c point)
   turn-moved r c WriteX b t = record {
     effect = writes-x r c;
-    x-change = x-put s l m (accept s Turn p (Seeking r c WriteX) m .memory) r c (p + 1) b (h .xs-long) refl;
+    x-change = x-put s l m (accept s Turn p (Seeking r c WriteX) m .memory) r c (p + 1) b (h .long .xs) refl;
     mark-change = λ i j place. refl;
     move = begins;
   }
@@ -149,7 +149,7 @@ module _ (s : Settings) (l : WithinLimits s) (m : Memory) (h : Sound s m) (p : �
   turn-moved r c WriteMark b t = record {
     effect = writes-mark r c 1;
     x-change = λ i j. refl;
-    mark-change = mark-put s l m (accept s Turn p (Seeking r c WriteMark) m .memory) r c (own s p) 1 b own-mark (h .marks-long) refl;
+    mark-change = mark-put s l m (accept s Turn p (Seeking r c WriteMark) m .memory) r c (own s p) 1 b own-mark (h .long .marks) refl;
     move = marks refl;
   }
   turn-moved r c ReadX b t = record {
@@ -161,7 +161,7 @@ module _ (s : Settings) (l : WithinLimits s) (m : Memory) (h : Sound s m) (p : �
   turn-moved r c (Clear d) b t = record {
     effect = writes-mark r c 0;
     x-change = λ i j. refl;
-    mark-change = mark-put s l m (accept s Turn p (Seeking r c (Clear d)) m .memory) r c (own s p) 0 b own-mark (h .marks-long) refl;
+    mark-change = mark-put s l m (accept s Turn p (Seeking r c (Clear d)) m .memory) r c (own s p) 0 b own-mark (h .long .marks) refl;
     move = clears (eqb→eq (s .mode) 1 t) (goes s l r c d b);
   }
 
@@ -174,7 +174,7 @@ module _ (s : Settings) (l : WithinLimits s) (m : Memory) (h : Sound s m) (p : �
           record {
             effect = writes-mark r c 0;
             x-change = λ i j. ap (λ (a : Access). xAt s (store s a m .xs) i j) clears;
-            mark-change = mark-put s l m (accept s Release p (Holding r c) m .memory) r c (own s p) 0 on own-mark (h .marks-long)
+            mark-change = mark-put s l m (accept s Release p (Holding r c) m .memory) r c (own s p) 0 on own-mark (h .long .marks)
                 (ap (λ (a : Access). store s a m .marks) clears);
             move = frees one on;
           }
@@ -213,7 +213,7 @@ module _ (s : Settings) (l : WithinLimits s) (m : Memory) (h : Sound s m) (p : �
   caller-after kind state =
       let new : Record = record { state = nextState s kind p state m } in
       ap (λ (records : List Record). getD records p idle .state) (records-after s (access s kind p state) m p new)
-      ∙ ap (λ (a : Record). a .state) (getD-set-same (m .records) p new idle (le-trans below (h .records-long)))
+      ∙ ap (λ (a : Record). a .state) (getD-set-same (m .records) p new idle (le-trans below (h .long .records)))
 
   pub others-after : (kind : Kind) (state : State) (q : ℕ) → (q ≡ p → ⊥) → stateOf (accept s kind p state m .memory) q ≡ stateOf m q
   others-after kind state q d =
@@ -224,12 +224,12 @@ module _ (s : Settings) (l : WithinLimits s) (m : Memory) (h : Sound s m) (p : �
   -- how its task moves
   pub caller-moves : (kind : Kind) → oneTimeRelease s kind ≡ false → wrongMoment kind (stateOf m p) ≡ false
       → (e : Effect) × Move rules p (gridOf s m) (standOf (width s) (stateOf m p)) e (standOf (width s) (nextState s kind p (stateOf m p) m))
-  caller-moves kind once e = let it = moved kind (stateOf m p) once e (h .records-good p below) in (it .effect, it .move)
+  caller-moves kind once e = let it = moved kind (stateOf m p) once e (h .in-range .records p below) in (it .effect, it .move)
 
   pub accepted-step : (kind : Kind) → oneTimeRelease s kind ≡ false → wrongMoment kind (stateOf m p) ≡ false
       → Step rules (gridOf s m) (gridOf s (accept s kind p (stateOf m p) m .memory))
   accepted-step kind once e =
-      let it = moved kind (stateOf m p) once e (h .records-good p below) in
+      let it = moved kind (stateOf m p) once e (h .in-range .records p below) in
       record {
         p = p;
         below = below;

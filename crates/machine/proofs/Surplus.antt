@@ -23,7 +23,7 @@ use Rattle.machine.specs.declared.Kind.{Kind}
 use Rattle.machine.specs.declared.Event.{Event}
 use Rattle.machine.specs.declared.Verdict.{Verdict}
 use Rattle.machine.specs.declared.Answer.{Answer}
-use Rattle.machine.proofs.Searching.{first-bad-same, count-same}
+use Rattle.counting.proofs.Searching.{first-bad-same, count-same}
 use Rattle.machine.specs.OneAccess.{RegisterNeeded, accessOf, AcceptedIn}
 use Rattle.machine.specs.Surplus.{needed, surplus, SurplusNeverChanges, SurplusNeverBears}
 use Rattle.machine.proofs.Refusing.{ruled, started, ruled-accepted}
@@ -63,7 +63,7 @@ call-surplus s event m = go (verdictOf s event m) refl
         → surplus s (refuseOr verdict m (ruled s event m) .memory) ≡ surplus s m
     go Verdict.Accepted e =
         let h = passed s event m (accepted-in s event m e) in
-        record-surplus s _ (event .task .0) _ (h .task) ∙ store-surplus s m (accessOf s event m) (call-needed s event m h)
+        record-surplus s _ (event .task .0) _ (h .may .known) ∙ store-surplus s m (accessOf s event m) (call-needed s event m h)
     go (Verdict.Refused why) e = refl
 
 setup-surplus : (s : Settings) (m : Memory) → surplus s (setup s m .memory) ≡ surplus s m
@@ -159,9 +159,9 @@ call-cut s event m = rw (same-verdict s m event) (go (verdictOf s event m) refl)
     go Verdict.Accepted e =
         let h = passed s event m (accepted-in s event m e) in
         let p = event .task .0 in
-        let state = ap (λ (r : Record). r .state) (getD-take (s .n) (m .records) p idle (h .task)) in
+        let state = ap (λ (r : Record). r .state) (getD-take (s .n) (m .records) p idle (h .may .known)) in
         ap (λ (st : State). accept s (event .kind) p st (needed s m)) state
-        ∙ accept-cut s (event .kind) p (stateOf m p) m (h .task) (call-needed s event m h)
+        ∙ accept-cut s (event .kind) p (stateOf m p) m (h .may .known) (call-needed s event m h)
     go (Verdict.Refused why) e = refl
 
 setup-cut : (s : Settings) (m : Memory) → setup s (needed s m) ≡ cut s (setup s m)

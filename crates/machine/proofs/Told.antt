@@ -7,7 +7,7 @@ use Prim.Native.Nat.{ℕ, _+_, _<_}
 use native.Mathlib.Omega.{arith}
 use lib.Dec.{T, eqb}
 use borrow.Author.Tests.{eqb-true, eqb-false, ne-eqb}
-use Rattle.machine.specs.Settings.{permitted, width}
+use Rattle.machine.specs.Settings.{width}
 use Rattle.machine.specs.Places.{nameNumber}
 use Rattle.machine.specs.Records.{isHolding, isOut}
 use Rattle.machine.specs.Memory.{Memory, stateOf}
@@ -29,13 +29,13 @@ use Rattle.machine.specs.declared.Kind.{Kind}
 use Rattle.machine.specs.declared.Kind.the-variants.{Ask, Turn, Release}
 use Rattle.machine.specs.declared.Event.{Event}
 use Rattle.machine.specs.declared.Answer.{Answer}
-use Rattle.machine.proofs.Limits.{limits}
-use Rattle.machine.proofs.Fresh.{setup-permitted, fresh-idle}
-use Rattle.machine.proofs.Sound.{Sound}
+use Rattle.machine.proofs.Fresh.{setup-within, fresh-idle}
 use Rattle.machine.proofs.Telling.{tells}
 use Rattle.machine.proofs.Steps.{caller-after, others-after}
-use Rattle.machine.proofs.Outcomes.{Open, Called, taken, refused, accepted-answer, called, open-accepted}
+use Rattle.machine.proofs.Outcomes.{Called, taken, refused, accepted-answer, called, may-accepted}
 use Rattle.machine.proofs.Histories.{Fine, fine-kept, fresh-fine, always-fine}
+use Rattle.machine.proofs.Passed.{Fit, May}
+use Rattle.machine.specs.Ranges.{WithinLimits}
 
 -- ---- an accepted call
 
@@ -96,7 +96,7 @@ answer-true s Release p (Holding r c) m e = tt
 abbrev heard : ℕ → Event → Outcome → Answer → Answer
 heard p event outcome before = cond (isAccepted (outcome .answer) && eqb (event .task .0) p) (outcome .answer) before
 
-module _ (s : Settings) (fair : T (permitted s)) (p : ℕ) (m : Memory) (sound : Sound s m) (before : Answer) where
+module _ (s : Settings) (fair : WithinLimits s) (p : ℕ) (m : Memory) (sound : Fit s m) (before : Answer) where
   heard-kept : (event : Event) → TrueOf s (stateOf m p) before → TrueOf s (stateOf (call s event m .memory) p) (heard p event (call s event m) before)
   heard-kept event h = go (call s event m) (called s fair event m sound) (eqb (event .task .0) p) refl
     where
@@ -105,13 +105,13 @@ module _ (s : Settings) (fair : T (permitted s)) (p : ℕ) (m : Memory) (sound :
       go outcome (refused why) its e = h
       go outcome (taken o) true e =
           let z : event .task .0 ≡ p = eqb-true (event .task .0) p e in
-          let own = caller-after s (limits s fair) m sound (event .task .0) (o .below) (event .kind) (stateOf m (event .task .0)) in
+          let own = caller-after s fair m sound (event .task .0) (o .known) (event .kind) (stateOf m (event .task .0)) in
           rw (accepted-answer s event m, ← z, own) (answer-true s (event .kind) (event .task .0) (stateOf m (event .task .0)) m (o .moment))
       go outcome (taken o) false e =
           let d : p ≡ event .task .0 → ⊥ = λ f. eqb-false (event .task .0) p e (sym f) in
-          rw (accepted-answer s event m, others-after s (limits s fair) m sound (event .task .0) (o .below) (event .kind) (stateOf m (event .task .0)) p d) h
+          rw (accepted-answer s event m, others-after s fair m sound (event .task .0) (o .known) (event .kind) (stateOf m (event .task .0)) p d) h
 
-last-heard : (s : Settings) (fair : T (permitted s)) (p : ℕ) (events : List Event) (m : Memory) (before : Answer) → Fine s fair m
+last-heard : (s : Settings) (fair : WithinLimits s) (p : ℕ) (events : List Event) (m : Memory) (before : Answer) → Fine s fair m
     → TrueOf s (stateOf m p) before → TrueOf s (stateOf (run s events m) p) (lastAnswer p (history s events m) before)
 last-heard s fair p [] m before f h = h
 last-heard s fair p (event ∷ events) m before f h =
@@ -120,14 +120,14 @@ last-heard s fair p (event ∷ events) m before f h =
 
 pub last-answer-true : LastAnswerTrue
 last-answer-true s lent events ok p l =
-    last-heard s (setup-permitted s lent ok) p events (setup s lent .memory) Answer.Done (fresh-fine s lent ok) (rw (fresh-idle s lent ok p l) tt)
+    last-heard s (setup-within s lent ok) p events (setup s lent .memory) Answer.Done (fresh-fine s lent ok) (rw (fresh-idle s lent ok p l) tt)
 
 -- ---- the name that is freed
 
-holder-open : (s : Settings) (m : Memory) (p r c : ℕ) → p < s .n → s .mode ≡ 1 → stateOf m p ≡ Holding r c → Open s (release p) m
-holder-open s m p r c l one e = record {
-  below = l;
-  releases = ne-eqb (s .mode) 0 (λ z. omega arith);
+holder-may : (s : Settings) (m : Memory) (p r c : ℕ) → p < s .n → s .mode ≡ 1 → stateOf m p ≡ Holding r c → May s (release p) m
+holder-may s m p r c l one e = record {
+  known = l;
+  lived = ne-eqb (s .mode) 0 (λ z. omega arith);
   moment = ap (λ (state : State). not (isHolding state)) e;
   room = refl;
 }
@@ -135,12 +135,12 @@ holder-open s m p r c l one e = record {
 pub told : (s : Settings) (lent : Memory) (events : List Event) → SetUp s lent → (p r c : ℕ) → p < s .n
     → stateOf (memoryAfter s lent events) p ≡ Holding r c → Told s lent events p (nameNumber s r c)
 told s lent events ok p r c l e =
-    let fair = setup-permitted s lent ok in
+    let fair = setup-within s lent ok in
     let m = memoryAfter s lent events in
     let named : Name = nameAt s r c in
     let heard : lastAnswer p (historyOf s lent events) Answer.Done ≡ Answer.Holds named = rw e at (last-answer-true s lent events ok p l) in
     let freed : s .mode ≡ 1 → call s (release p) m .answer ≡ Answer.Freed named = λ one.
-    rw (open-accepted s fair (release p) m (always-fine s lent ok events .good .sound) (holder-open s m p r c l one e), e) in
+    rw (may-accepted s fair (release p) m (always-fine s lent ok events .good .sound) (holder-may s m p r c l one e), e) in
     record {
       answered = heard;
       answer-tells = tells _ (Answer.Holds named) (named .0 ∷ []) heard (refl, refl) .1;

@@ -9,12 +9,13 @@ use native.Mathlib.Omega.{arith}
 use lib.Dec.{T, eqb}
 use lib.ListN.{getD, set}
 use borrow.Author.Tests.{eq-eqb, ne-eqb}
-use Rattle.machine.specs.Settings.{permitted, width, own}
+use Rattle.machine.specs.Settings.{width, own}
 use Rattle.machine.specs.Places.{blockNumber}
 use Rattle.machine.specs.Memory.{Memory, markIndex, stateOf, outOf}
 use Rattle.machine.specs.Turn.{arrive, leave}
 use Rattle.machine.specs.Calls.{nextState, accept, setup, ask}
-use Rattle.machine.specs.Worst.{turns, worstRow, worstRows, worst}
+use Rattle.machine.specs.History.{turns}
+use Rattle.machine.proofs.Worst.{worstRow, worstRows, worst}
 use Rattle.machine.specs.Demands.{SetUp}
 use Rattle.machine.specs.declared.Settings.{Settings}
 use Rattle.machine.specs.declared.Direction.the-variants.{Down}
@@ -24,16 +25,17 @@ use Rattle.machine.specs.declared.State.{State}
 use Rattle.machine.specs.declared.State.the-variants.{Idle, Seeking, Holding}
 use Rattle.machine.specs.declared.Kind.the-variants.{Ask, Turn}
 use Rattle.machine.specs.declared.Event.{Event}
-use Rattle.machine.proofs.Limits.{limits, width-least}
-use Rattle.machine.proofs.Fresh.{setup-permitted, fresh-idle, fresh-none-out}
+use Rattle.machine.proofs.Limits.{width-least}
+use Rattle.machine.proofs.Fresh.{setup-within, fresh-idle, fresh-none-out}
 use Rattle.machine.proofs.Turning.{reads-other}
 use Rattle.machine.proofs.Arriving.{leave-at-once, leave-clearing}
 use Rattle.machine.proofs.Seen.{own-below, gridOf, x-on-block, mark-on-block, x-put, mark-put}
 use Rattle.machine.proofs.Histories.{Fine, fresh-fine, fresh-unmarked, one-more-out}
 use Rattle.machine.proofs.Leads.{Leads, leads-more, leads-append, leads-nowhere}
 use Rattle.machine.proofs.Laps.{Took, turn-took, ask-took, Lap, lap-over, lap-more, laps}
+use Rattle.machine.specs.Ranges.{WithinLimits}
 
-module _ (s : Settings) (fair : T (permitted s)) where
+module _ (s : Settings) (fair : WithinLimits s) where
   -- ---- what a row needs of the memory
 
   -- the marks of the first column are 0 from row r on
@@ -65,7 +67,7 @@ module _ (s : Settings) (fair : T (permitted s)) where
       → Lap s fair (Unmarked r) p (Seeking r 0 WriteMark) (turns (suc (width s)) p) m
   first-lap r p b l m f clean is =
       let here = turn-took p r 0 WriteX m f l is in
-      let some = width-least s (limits s fair) in
+      let some = width-least s fair in
       lap-more here
       (scan-lap r p b l (width s) 0 (omega arith) _ (here .fine) clean (here .its ∙ rw (ne-eqb 0 (width s) (λ z. omega arith))))
 
@@ -76,12 +78,12 @@ module _ (s : Settings) (fair : T (permitted s)) where
       → accept s Turn p (Seeking r 0 point) m .memory .marks ≡ set (m .marks) (markIndex s (blockNumber s r 0) (own s p)) value
       → Unmarked (r + 1) m → Unmarked (r + 1) (accept s Turn p (Seeking r 0 point) m .memory)
   below-unmarked r p value point m f b l e clean i place h =
-      mark-put s (limits s fair) m (accept s Turn p (Seeking r 0 point) m .memory) r 0 (own s p) value (omega arith) (own-below s (limits s fair) p l)
-      (f .good .sound .marks-long) e .there i 0 place (λ z _ _. omega arith) ∙ clean i place h
+      mark-put s fair m (accept s Turn p (Seeking r 0 point) m .memory) r 0 (own s p) value (omega arith) (own-below s fair p l)
+      (f .good .sound .long .marks) e .there i 0 place (λ z _ _. omega arith) ∙ clean i place h
 
   second-lap : (r n p : ℕ) → r + 2 ≤ s .k → p < n → p < s .n → (m : Memory) → Fine s fair m → Lost r n m → stateOf m p ≡ Seeking r 0 WriteMark
       → Lap s fair (Lost r n) p (arrive s (r + 1) 0) (turns (s .mode + 2) p) m
-  second-lap r n p b h l m f lost is = go (limits s fair .modes)
+  second-lap r n p b h l m f lost is = go (fair .modes)
     where
       m₁ : Memory
       m₁ = accept s Turn p (Seeking r 0 WriteMark) m .memory
@@ -144,7 +146,7 @@ module _ (s : Settings) (fair : T (permitted s)) where
       (first .others (suc n) (le-refl (suc n)) ∙ all (suc n) (le-refl (suc (suc n)))) in
       let lost : Lost r (suc n) m₁ = (
         λ i place h. first .keeps i place (omega arith),
-        x-put s (limits s fair) (first .last) m₁ r 0 (suc n + 1) (omega arith) (first .fine .good .sound .xs-long) refl .here,
+        x-put s fair (first .last) m₁ r 0 (suc n + 1) (omega arith) (first .fine .good .sound .long .xs) refl .here,
       ) in
       let second = laps (λ _. Lost r (suc n)) (Seeking r 0 WriteMark) (arrive s (r + 1) 0) (turns (s .mode + 2)) (suc n)
       (λ p m₂ h. second-lap r (suc n) p b h (omega arith) m₂) m₁ (stays .fine) lost (λ q h. stays .others q (λ d. omega arith) ∙ first .theirs q h) in
@@ -167,7 +169,7 @@ module _ (s : Settings) (fair : T (permitted s)) where
         holds = all 0 (le-refl 1) ∙ rw (eq-eqb (r + 0 + 1) (s .k) (omega arith)) (ap (λ (i : ℕ). Holding i 0) last);
       }
   go-down (suc n) r e m f clean all =
-      let row = row-done n r (omega arith) (omega (arith, limits s fair .k-within)) m f clean
+      let row = row-done n r (omega arith) (omega (arith, fair .k-within)) m f clean
       (λ q h. all q h ∙ rw (ne-eqb (r + 0 + 1) (s .k) (λ z. omega arith))) in
       let rest = go-down n (r + 1) (omega arith) (row .last) (row .fine) (row .keeps) (row .theirs) in
       record {
@@ -189,10 +191,10 @@ module _ (s : Settings) (fair : T (permitted s)) where
       let more = one-more-out s fair Ask p m (f .good .sound) l in
       lap-more here (lap-over _ (here .fine) (omega arith, room .1) (here .its))
 
-pub worst-run : (s : Settings) (lent : Memory) (ok : SetUp s lent) → Foot s (setup-permitted s lent ok) (worst s) (setup s lent .memory)
+pub worst-run : (s : Settings) (lent : Memory) (ok : SetUp s lent) → Foot s (setup-within s lent ok) (worst s) (setup s lent .memory)
 worst-run s lent ok =
-    let fair = setup-permitted s lent ok in
-    let bounds = limits s fair in
+    let fair = setup-within s lent ok in
+    let bounds = fair in
     let asks = laps (Room s fair) Idle (arrive s 0 0) (λ p. ask p ∷ []) (s .k) (λ p m h. ask-lap s fair p m (omega (arith, bounds .k-within)))
     (setup s lent .memory) (fresh-fine s lent ok) (omega (arith, fresh-none-out s lent ok), λ i place _. fresh-unmarked s lent ok i 0 place)
     (λ q h. fresh-idle s lent ok q (omega (arith, bounds .k-within))) in

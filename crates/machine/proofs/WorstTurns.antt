@@ -11,13 +11,14 @@ use lib.Dec.{eqb, eqb·suc-zero}
 use borrow.Author.Tests.{eq-eqb, ne-eqb}
 use Rattle.machine.specs.Settings.{width}
 use Rattle.machine.specs.Calls.{ask, turn}
-use Rattle.machine.specs.Worst.{turns, each, worstRow, worstRows, worst}
+use Rattle.machine.specs.History.{turns}
+use Rattle.machine.proofs.Worst.{each, worstRow, worstRows, worst}
 use Rattle.machine.specs.Demands.{bound}
 use Rattle.machine.specs.declared.Settings.{Settings}
 use Rattle.machine.specs.declared.Event.{Event}
 use Rattle.machine.specs.Ranges.{WithinLimits}
 use Rattle.machine.proofs.Seen.{rulesOf}
-use Rattle.machine.proofs.Spent.{cost}
+use Rattle.grid.proofs.Spent.{cost}
 use Rattle.machine.proofs.Served.{bound-enough}
 use Rattle.machine.proofs.Leads.{EndsWith, ends-alone, ends-append, ends-nil, writtenTurns, written-append}
 

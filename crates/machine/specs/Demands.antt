@@ -3,16 +3,15 @@
 use mathlib.Core.Path.{_≡_}
 use mathlib.Core.Bool.{Bool, true, false, cond, _&&_}
 use mathlib.Core.List.{List, [], _∷_, _++_}
-use Prim.Native.Nat.{ℕ, _+_, _-_, _*_, _≤_, _<_}
+use Prim.Native.Nat.{ℕ, _+_, _-_, _*_, _/_, _≤_, _<_}
 use lib.Dec.{T, eqb}
-use Rattle.machine.specs.Places.{names, nameNumber}
+use Rattle.machine.specs.Places.{nameNumber}
 use Rattle.machine.specs.Records.{isSeeking, isHolding}
 use Rattle.machine.specs.Memory.{Memory, stateOf, largest}
 use Rattle.machine.specs.Answers.{said, isAccepted}
 use Rattle.machine.specs.Calls.{nameAt, call, setup, turn, release}
 use Rattle.machine.specs.Ranges.{WithinLimits}
-use Rattle.machine.specs.History.{run, Answered, history, turnsOf}
-use Rattle.machine.specs.Worst.{turns, worst}
+use Rattle.machine.specs.History.{run, Answered, history, turnsOf, turns}
 use Rattle.machine.specs.declared.Settings.{Settings}
 use Rattle.machine.specs.declared.State.{State}
 use Rattle.machine.specs.declared.State.the-variants.{Idle, Seeking, Holding}
@@ -85,7 +84,7 @@ HeldNamesDiffer =
 abbrev pub HeldNamesBelow : Type 0
 HeldNamesBelow =
     (s : Settings) (lent : Memory) (events : List Event) → SetUp s lent → (p n : ℕ) → p < s .n
-    → HoldsName s (memoryAfter s lent events) p n → n < names s
+    → HoldsName s (memoryAfter s lent events) p n → n < s .k * (s .k + 1) / 2
 
 -- a task is where its last accepted answer says, from its accepted ask to its accepted release
 abbrev pub LastAnswerTrue : Type 0
@@ -141,7 +140,7 @@ pub record NeedsBound (s : Settings) (lent : Memory) (events : List Event) : Typ
   pub exactly : used s lent events 0 ≡ bound s
 
 abbrev pub BoundExact : Type 0
-BoundExact = (s : Settings) (lent : Memory) → SetUp s lent → NeedsBound s lent (worst s)
+BoundExact = (s : Settings) → WithinLimits s → (events : List Event) × ((lent : Memory) → SetUp s lent → NeedsBound s lent events)
 
 -- setup of a memory with rows long enough is accepted, so none of the above is empty
 abbrev pub SetupTakes : Type 0

@@ -10,8 +10,8 @@ pub mod Calls
 pub mod History
 pub mod Lent
 -- What is promised of them.
-pub mod Worst
 pub mod Demands
+pub mod Numbers
 pub mod Ranges
 pub mod Refusing
 pub mod Rules

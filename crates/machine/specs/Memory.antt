@@ -1,9 +1,10 @@
 -- 01, "Memory that is lent": the three rows, what a call needs of them, and what one register written leaves.
-use mathlib.Core.Bool.{Bool, true, false, cond}
+use mathlib.Core.Bool.{Bool}
 use mathlib.Core.List.{List, _++_}
-use Prim.Native.Nat.{ℕ, zero, suc, _+_, _*_}
-use lib.Dec.{leb, ltb}
+use Prim.Native.Nat.{ℕ, _+_, _*_}
+use lib.Dec.{leb}
 use lib.ListN.{length, getD, set, replicate, drop}
+use Rattle.counting.specs.Counting.{count, firstBad}
 use Rattle.machine.specs.Settings.{width}
 use Rattle.machine.specs.Places.{blocks}
 use Rattle.machine.specs.Records.{idle, isOut, recordInRange}
@@ -50,26 +51,6 @@ abbrev pub markInRange : ℕ → Bool
 markInRange mark = leb mark 1
 
 -- ---- searching and counting
-
--- one more where the test passes
-abbrev pub tick : Bool → ℕ → ℕ
-tick true n = suc n
-tick false n = n
-
--- how many numbers below n pass the test
-unfoldable pub count : (ℕ → Bool) → ℕ → ℕ
-count test zero = zero
-count test (suc n) = tick (test n) (count test n)
-
--- an earlier finding below n stays; else n itself is tried, and n + 1 says that it is good too
-abbrev pub firstOr : ℕ → ℕ → Bool → ℕ
-firstOr earlier n good = cond (ltb earlier n) earlier (tick good n)
-
--- the least number below n that fails the test; n where none does
-unfoldable pub firstBad : (ℕ → Bool) → ℕ → ℕ
-firstBad good zero = zero
-firstBad good (suc n) = firstOr (firstBad good n) n (good n)
-
 -- the first value out of range of each row, searched in order; the count of needed values where all are in range
 abbrev pub badRecord : Settings → List Record → ℕ
 badRecord s records = firstBad (λ p. recordInRange s (getD records p idle)) (s .n)

@@ -9,8 +9,9 @@ use Prim.Native.Nat.{ℕ, _≤_, _<_}
 use lib.Dec.{T}
 use lib.ListN.{length}
 use Rattle.machine.specs.Settings.{width}
-use Rattle.machine.specs.Memory.{Memory, markIndex, stateOf, count}
-use Rattle.machine.specs.Answers.{Said, said, isAccepted}
+use Rattle.counting.specs.Counting.{count}
+use Rattle.machine.specs.Memory.{Memory, markIndex, stateOf}
+use Rattle.machine.specs.Answers.{Said, said, numberOf, isAccepted}
 use Rattle.machine.specs.Calls.{call, setup}
 use Rattle.machine.specs.Ranges.{WithinLimits, NeedsMore, OutOfRangeAt, SomeOutOfRange, seeksOrHolds}
 use Rattle.machine.specs.declared.Settings.{Settings}
@@ -22,6 +23,7 @@ use Rattle.machine.specs.declared.Kind.the-variants.{Ask, Turn, Release}
 use Rattle.machine.specs.declared.Event.{Event}
 use Rattle.machine.specs.declared.Row.{Row}
 use Rattle.machine.specs.declared.Row.the-variants.{Records, Xs, Marks}
+use Rattle.machine.specs.declared.Refusal.{Refusal}
 use Rattle.machine.specs.declared.Answer.{Answer}
 
 -- ---- the form of every table
@@ -142,8 +144,9 @@ pub record CallRefused (s : Settings) (event : Event) (m : Memory) : Type 0 wher
 pub record RefusalExact : Type 0 where
   pub calls : (s : Settings) (event : Event) (m : Memory) → CallRefused s event m
   pub setups : (s : Settings) (m : Memory) → RefusedExactly (setupSays s m) (setupLines s m)
-  -- an answer is an acceptance exactly if it has no number of refusal
+  -- an answer is an acceptance exactly if it has no number of refusal, and a refusal's number is the one that its answer has
   pub acceptance : (answer : Answer) → T (isAccepted answer) ↔ (said answer .number ≡ 0)
+  pub numbered : (why : Refusal) → numberOf why ≡ said (Answer.Refused why) .number
 
 -- ---- "A refusal changes no lent element"
 

@@ -93,7 +93,7 @@ pub data Says (s : Settings) (p : ℕ) (m : Memory) : Kind → Outcome → Type 
   -- "clear: own mark becomes 0, also when going right; then move."
   clear : {r c : ℕ} {direction : Direction} {to : Outcome} → s .mode ≡ 1 → SeeksAt s p m r c (Clear direction)
       → Moves s p r c direction (withMark (markOf s r c p) 0 m) to → Says s p m Turn to
-  -- "Release, mode 1: if r+c ≤ k-2 its own mark in that block becomes 0; otherwise no access. It is idle. X is never reset."
+  -- "Release, mode 1, for a holding task: if r+c ≤ k-2 its own mark in that block becomes 0; otherwise no access. It is idle. X is never reset."
   release-block : {r c : ℕ} → s .mode ≡ 1 → stateOf m p ≡ Holding r c → r + c + 2 ≤ s .k
       → Says s p m Release (freesAt s p r c (withMark (markOf s r c p) 0 m))
   release-edge : {r c : ℕ} → s .mode ≡ 1 → stateOf m p ≡ Holding r c → r + c + 1 ≡ s .k → Says s p m Release (freesAt s p r c m)

@@ -3,9 +3,10 @@ use mathlib.Core.Path.{_≡_}
 use Prim.Native.Nat.{ℕ, suc, _+_, _*_, _-_, _≤_, _<_}
 use native.Mathlib.{Omega.arith, Nat.{mul-le-mul, mul-le-mul-right, suc-mul}}
 use mir.{Syntax.{w16, w64}, Val.Fits}
-use Rattle.machine.specs.{Settings.width, Places.{half, placeNumber, blocks}, Memory.{marksNeeded, markIndex}}
-use Rattle.machine.specs.{declared.Settings.Settings, Ranges.WithinLimits}
+use Rattle.machine.specs.{Settings.width, Places.blocks, Memory.{marksNeeded, markIndex}, declared.Settings.Settings}
+use Rattle.machine.specs.Ranges.{WithinLimits}
 use Rattle.machine.proofs.Limits.{width-most}
+use Rattle.grid.specs.Triangle.{half, placeNumber}
 
 -- products of the grid's numbers fit, also with one more such number added
 module _ (a b : ℕ) (small-a : a ≤ 256) (small-b : b ≤ 256) where

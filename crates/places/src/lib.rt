@@ -8,7 +8,8 @@ ghost use mathlib.Core.Path.{_≡_};
 ghost use Prim.Native.Nat.{_+_, _-_, _≤_, _<_};
 ghost use lib.Dec.{T};
 ghost use Rattle.machine.specs.Settings.{permitted, width, own};
-ghost use Rattle.machine.specs.Places.{half, placeNumber, blocks, blockNumber, names};
+ghost use Rattle.grid.specs.Triangle.{half, placeNumber};
+ghost use Rattle.machine.specs.Places.{blocks, blockNumber, names};
 ghost use Rattle.machine.specs.Memory.{marksNeeded, markIndex};
 ghost use Rattle.machine.specs.Calls.{nameAt};
 

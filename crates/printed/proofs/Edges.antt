@@ -7,8 +7,9 @@ use Prim.Native.Nat.{ℕ, _<_}
 use native.Mathlib.Omega.{arith}
 use lib.Dec.{T, eqb}
 use borrow.Author.Tests.{le-leb, lt-leb}
-use Rattle.machine.specs.Places.{half, placeNumber}
-use Rattle.machine.specs.Memory.{Memory, count, firstBad}
+use Rattle.grid.specs.Triangle.{half, placeNumber}
+use Rattle.counting.specs.Counting.{count, firstBad}
+use Rattle.machine.specs.Memory.{Memory}
 use Rattle.machine.specs.Turn.{arrive}
 use Rattle.machine.specs.Answers.{isAccepted}
 use Rattle.machine.specs.Calls.{call, setup, verdictOf, standing, ask, release}
@@ -16,22 +17,20 @@ use Rattle.text.specs.Decimal.{decimal}
 use Rattle.machine.specs.Ranges.{WithinLimits}
 use Rattle.machine.specs.Refusing.{NoneHolds, lentLines, rangeLines}
 use Rattle.machine.specs.Demands.{SetUp}
-use Rattle.printed.specs.Edges.{FiveNames, NoTurns, LoneTask, TheOtherTask, TheListing, TwoOut, LastIdentifier, NoRelease, NoReleaseIdle, settings, SetupsTaken, OutsideRefused, Edges}
+use Rattle.printed.specs.Edges.{FiveNames, NoTurns, LoneTask, TheOtherTask, TheListing, TwoOut, LastIdentifier, NoRelease, NoReleaseIdle, settings, Refuses, SetupsTaken, OutsideRefused, Edges}
 use Rattle.machine.specs.declared.Settings.{Settings}
 use Rattle.machine.specs.declared.State.{State}
 use Rattle.machine.specs.declared.State.the-variants.{Idle, Seeking, Holding}
 use Rattle.machine.specs.declared.Verdict.{Verdict}
 use Rattle.machine.specs.declared.Row.the-variants.{Records, Xs, Marks}
-use Rattle.machine.specs.declared.Refusal.the-variants.{OneTime}
-use Rattle.machine.specs.declared.Answer.the-variants.{Refused}
-use Rattle.machine.proofs.Tested.{misses}
-use Rattle.machine.proofs.Limits.{zero-or-one, limits-tested, limits, permits, mode-most}
-use Rattle.machine.proofs.Lines.{short-line}
-use Rattle.machine.proofs.BadValue.{found-line}
+use Rattle.counting.proofs.Tested.{misses}
+use Rattle.machine.proofs.Limits.{zero-or-one, limits-tested, mode-most}
+use Rattle.machine.proofs.Passing.{fits}
 use Rattle.machine.proofs.Refusing.{within}
 use Rattle.machine.proofs.Exact.{setup-takes-largest}
-use Rattle.machine.proofs.Fresh.{Passes, setup-permitted, fresh-passes, fresh-idle, fresh-none-out, verdict-past-range}
+use Rattle.machine.proofs.Fresh.{setup-within, fresh-idle, fresh-none-out, fresh-fit}
 use Rattle.printed.proofs.OneTimePair.{one-time-pair}
+use Rattle.machine.proofs.Passed.{Fit, fit-verdict}
 
 five-names : FiveNames
 unfolding half placeNumber
@@ -63,8 +62,8 @@ two-out = (
 -- an ask of a task below N, right after setup, is accepted
 fresh-ask : (s : Settings) (lent : Memory) → SetUp s lent → (p : ℕ) → p < s .n → verdictOf s (ask p) (setup s lent .memory) ≡ Verdict.Accepted
 fresh-ask s lent ok p l =
-    let k-least = limits s (setup-permitted s lent ok) .k-least in
-    verdict-past-range s (setup s lent .memory) (ask p) (fresh-passes s lent ok)
+    let k-least = setup-within s lent ok .k-least in
+    fit-verdict s (setup s lent .memory) (ask p) (setup-within s lent ok) (fresh-fit s lent ok)
     ∙ rw (lt-leb (s .n) p l, fresh-idle s lent ok p l, fresh-none-out s lent ok, lt-leb (s .k) 0 k-least)
 
 cond-same : (b : Bool) (n : ℕ) → cond b n n ≡ n
@@ -80,7 +79,7 @@ no-turns s lent ok one p l = (
 
 last-identifier : LastIdentifier
 last-identifier s lent ok all = (
-  rw (verdict-past-range s (setup s lent .memory) (ask 256) (fresh-passes s lent ok), le-leb (s .n) 256 (omega arith)),
+  rw (fit-verdict s (setup s lent .memory) (ask 256) (setup-within s lent ok) (fresh-fit s lent ok), le-leb (s .n) 256 (omega arith)),
   rw (fresh-ask s lent ok 255 (omega arith)) (standing-accepted s (arrive s 0 0)),
 )
   where
@@ -89,26 +88,17 @@ last-identifier s lent ok all = (
     standing-accepted t (Seeking r c point) = tt
     standing-accepted t (Holding r c) = tt
 
--- where none of 1 to 3 is met, their tests are passed
-met-none : (s : Settings) (m : Memory) → NoneHolds (lentLines s m (rangeLines s m [])) → Passes s m
-met-none s m (fair, (long, (records, (xs, (marks, last))))) =
-    let l = within s fair in
-    record {
-      limits = permits s l;
-      rows = misses (short-line s l m) long;
-      records = misses (found-line s l m Records) records;
-      xs = misses (found-line s l m Xs) xs;
-      marks = misses (found-line s l m Marks) marks;
-    }
-
-one-time-release : (s : Settings) (m : Memory) → s .mode ≡ 0 → Passes s m → (p : ℕ) → p < s .n → call s (release p) m .answer ≡ Refused OneTime
-one-time-release s m one-time passes p l = rw (verdict-past-range s m (release p) passes, lt-leb (s .n) p l, one-time)
+one-time-release : (s : Settings) (m : Memory) → s .mode ≡ 0 → WithinLimits s → Fit s m → (p : ℕ) → p < s .n
+    → Refuses 5 (call s (release p) m .answer)
+one-time-release s m one-time l fit p low = rw (fit-verdict s m (release p) l fit, lt-leb (s .n) p low, one-time)
 
 no-release : NoRelease
-no-release s m one-time none = one-time-release s m one-time (met-none s m none)
+no-release s m one-time (fair, (long, (records, (xs, (marks, last))))) =
+    let l = within s fair in
+    one-time-release s m one-time l (fits s l m long (elim [ Records ↦ records | Xs ↦ xs | Marks ↦ marks ]))
 
 no-release-idle : NoReleaseIdle
-no-release-idle s lent ok one-time = one-time-release s (setup s lent .memory) one-time (fresh-passes s lent ok)
+no-release-idle s lent ok one-time = one-time-release s (setup s lent .memory) one-time (setup-within s lent ok) (fresh-fit s lent ok)
 
 -- ---- the edges of the limits
 

@@ -12,12 +12,13 @@ use lib.ListN.{length, getD, set, length-set, length-replicate, getD-replicate}
 use lib.Seq.{getD-set-same, getD-set-other}
 use borrow.Author.Tests.{eqb-true, eqb-false, lt-ltb, le-ltb}
 use Rattle.machine.specs.Records.{isHolding}
-use Rattle.machine.specs.Memory.{Memory, stateOf, tick, count, largest}
+use Rattle.counting.specs.Counting.{tick, count, anyBelow}
+use Rattle.machine.specs.Memory.{Memory, stateOf, largest}
 use Rattle.machine.specs.Answers.{isAccepted}
 use Rattle.machine.specs.Calls.{Outcome, nameAt, answerOf, call, setup}
 use Rattle.machine.specs.Calls as calls
 use Rattle.machine.specs.History.{Answered, counted, turnsOf}
-use Rattle.file.specs.File.{codeAt, taskAt, eventAt, anyBelow}
+use Rattle.file.specs.File.{codeAt, taskAt, eventAt}
 use Rattle.printed.specs.Listing.{Progress, turnsAfter, completed, progress, listingBy, holdersOf}
 use Rattle.machine.specs.Demands.{memoryAfter, historyOf, used, HoldsSome, bound}
 use Rattle.printed.specs.EndLine.{eventsOf, memoryAt, holdersAt, answerAt, Completes, takenAt, turnsSince, turnsAt, linesOf, Attained, NoneCounts, Greatest, EndLineCounted, EndCountsOne, UsedCounted, MostWithinBound}
@@ -31,8 +32,7 @@ use Rattle.machine.specs.declared.Event.{Event}
 use Rattle.machine.specs.declared.Answer.{Answer}
 use Rattle.machine.specs.declared.Opening.{Opening}
 use Rattle.machine.specs.OneAccess.{AcceptedIn}
-use Rattle.machine.proofs.Limits.{limits}
-use Rattle.machine.proofs.Searching.{count-same, count-none}
+use Rattle.counting.proofs.Searching.{count-same, count-none}
 use Rattle.machine.proofs.Passing.{passed, by-the-rules}
 use Rattle.machine.proofs.Effects.{only-the-register-written-changes}
 use Rattle.machine.proofs.Histories.{run-append, history-append}
@@ -199,8 +199,8 @@ module _ (s : Settings) (file : List ℕ) where
   completing-task : (n : ℕ) → Completes s file n → taskAt file n .0 < 256
   completing-task n (name, e) =
       let accepted = passed s (eventAt file n) (memoryAt s file n) (rw e tt) in
-      let few = accepted .lent .limits .n-most in
-      let low = accepted .task in
+      let few = accepted .limits .n-most in
+      let low = accepted .may .known in
       omega arith
 
   completed-turns : (n : ℕ) → Completes s file n → getD (standing (suc n) .turns) (taskAt file n .0) 0 ≡ turnsAt s file n
@@ -261,7 +261,7 @@ completed-within s file i (name, e) =
     let holds : HoldsSome (memoryAt s file (suc i)) p =
     rw (run-append s (eventsOf file i) (eventAt file i ∷ []) (setup s largest .memory)) (held-after s name (eventAt file i) (memoryAt s file i) e) in
     rw (sym (used-counted s file (suc i) p))
-    (served-within s largest (eventsOf file (suc i)) (setup-takes s (tests .lent .limits)) p (tests .task) .holding holds)
+    (served-within s largest (eventsOf file (suc i)) (setup-takes s (tests .limits)) p (tests .may .known) .holding holds)
 
 -- ---- the theorems
 

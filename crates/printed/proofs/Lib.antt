@@ -1,3 +1,5 @@
+-- the lines
+pub mod Text
 -- a room that is short
 pub mod Refusing
 -- input longer than any file
@@ -8,4 +10,3 @@ pub mod EndLine
 -- the table of 01's edges
 pub mod OneTimePair
 pub mod Edges
-pub mod Samples

@@ -11,7 +11,8 @@ use borrow.Author.Needs.{needs}
 use borrow.Author.Tests.{le-ltb, ltb-true, ltb-false, ne-eqb}
 use Rattle.machine.specs.Refusals.{Case, when, first, outsideLimits}
 use Rattle.machine.specs.Answers.{numberOf}
-use Rattle.file.specs.File.{mostEvents, fileLength, byteAt, lettersRight, versionOf, settingsOf, countOf, anyBelow, codeBad, openVerdict, openingBy}
+use Rattle.counting.specs.Counting.{anyBelow}
+use Rattle.file.specs.File.{mostEvents, fileLength, byteAt, lettersRight, versionOf, settingsOf, countOf, codeBad, openVerdict, openingBy}
 use Rattle.printed.specs.Listing.{refusedLine, listingBy, listing}
 use Rattle.machine.specs.declared.Refusal.{Refusal}
 use Rattle.machine.specs.declared.Refusal.the-variants.{Limits, FileLength, Letters, Version, TooManyEvents, EventCode}

@@ -5,8 +5,9 @@ use Prim.Native.Nat.{ℕ, suc, _+_, _≤_, _<_}
 use native.Mathlib.Omega.{arith}
 use lib.Dec.{T}
 use lib.ListN.{getD, set}
-use Rattle.machine.specs.Settings.{permitted, width, own}
-use Rattle.machine.specs.Places.{half, placeNumber, blockNumber, nameNumber}
+use Rattle.machine.specs.Settings.{width, own}
+use Rattle.grid.specs.Triangle.{half, placeNumber}
+use Rattle.machine.specs.Places.{blockNumber, nameNumber}
 use Rattle.machine.specs.Records.{isOut}
 use Rattle.machine.specs.Memory.{Memory, markIndex, stateOf, outOf}
 use Rattle.machine.specs.Calls.{Outcome, eventOf, answerOf, nextState, accept, setup}
@@ -22,14 +23,14 @@ use Rattle.machine.specs.declared.Kind.{Kind}
 use Rattle.machine.specs.declared.Kind.the-variants.{Ask, Turn}
 use Rattle.machine.specs.declared.Event.{Event}
 use Rattle.machine.specs.declared.Answer.{Answer}
-use Rattle.machine.proofs.Limits.{limits}
-use Rattle.machine.proofs.Fresh.{setup-permitted, fresh-idle, fresh-none-out}
-use Rattle.machine.proofs.Counting.{count-but-one}
+use Rattle.machine.proofs.Fresh.{setup-within, fresh-idle, fresh-none-out}
+use Rattle.counting.proofs.Counting.{count-but-one}
 use Rattle.machine.proofs.Turning.{scan-marked, scan-done, reads-own}
 use Rattle.machine.proofs.Arriving.{arrive-edge, arrive-block, leave-at-once}
 use Rattle.machine.proofs.Seen.{x-on-block, mark-on-block, x-put, mark-put}
 use Rattle.machine.proofs.Histories.{fresh-fine, fresh-unmarked}
 use Rattle.machine.proofs.Laps.{Took, turn-took, ask-took}
+use Rattle.machine.specs.Ranges.{WithinLimits}
 
 -- what the calls are answered, from m on
 record Heard (s : Settings) (events : List Event) (m : Memory) (answers : List Answer) : Type 0 where
@@ -39,7 +40,7 @@ heard-nothing : {s : Settings} {m : Memory} → Heard s [] m []
 heard-nothing = record { are = refl }
 
 -- an accepted call that leaves its task at `to`, and the calls after it
-heard : {s : Settings} {fair : T (permitted s)} {kind : Kind} {p : ℕ} {state : State} {m : Memory} {events : List Event} {rest : List Answer}
+heard : {s : Settings} {fair : WithinLimits s} {kind : Kind} {p : ℕ} {state : State} {m : Memory} {events : List Event} {rest : List Answer}
     (to : State) → Took s fair kind p state m → nextState s kind p state m ≡ to → Heard s events (accept s kind p state m .memory) rest
     → Heard s (eventOf kind p ∷ events) m (answerOf s kind state to ∷ rest)
 heard {s = s} {kind = kind} {p = p} {state = state} {m = m} {events = events} {rest = rest} to took e more = record {
@@ -55,8 +56,8 @@ two-names s two = rw two (refl, refl)
 
 module _ (s : Settings) (lent : Memory) (ok : SetUp s lent) (one-time : s .mode ≡ 0) (two : s .k ≡ 2) (p q : ℕ) (lp : p < s .n) (lq : q < s .n)
     (d : q ≡ p → ⊥) where
-  abbrev fair : T (permitted s)
-  fair = setup-permitted s lent ok
+  abbrev fair : WithinLimits s
+  fair = setup-within s lent ok
 
   abbrev start : State
   start = Seeking 0 0 WriteX
@@ -121,7 +122,7 @@ module _ (s : Settings) (lent : Memory) (ok : SetUp s lent) (one-time : s .mode 
   -- X is still what the task wrote
   own-x : nextState s Turn p (Seeking 0 0 ReadX) m₄ ≡ Holding 0 0
   own-x =
-      let put = x-put s (limits s fair) m₁ m₂ 0 0 (p + 1) (omega arith) (asks .fine .good .sound .xs-long) refl in
+      let put = x-put s fair m₁ m₂ 0 0 (p + 1) (omega arith) (asks .fine .good .sound .long .xs) refl in
       sym (reads-own s p 0 0 (getD (m₄ .xs) (blockNumber s 0 0) 0) (sym (x-on-block s (m₂ .xs) 0 0 (omega arith)) ∙ put .here))
 
   -- the calls of p moved p alone, so that one task at the most is out
@@ -145,7 +146,7 @@ module _ (s : Settings) (lent : Memory) (ok : SetUp s lent) (one-time : s .mode 
   -- the mark is set: q goes right, to the edge
   marked : nextState s Turn q (Seeking 0 0 (Scan 0)) m₇ ≡ Holding 0 1
   marked =
-      let put = mark-put s (limits s fair) m₃ m₄ 0 0 0 1 (omega arith) (omega (arith, one-wide)) (scans .fine .good .sound .marks-long)
+      let put = mark-put s fair m₃ m₄ 0 0 0 1 (omega arith) (omega (arith, one-wide)) (scans .fine .good .sound .long .marks)
       (ap (λ (place : ℕ). set (m₃ .marks) (markIndex s (blockNumber s 0 0) place) 1) own-first) in
       let e = sym (mark-on-block s (m₄ .marks) 0 0 0 (omega arith) (omega (arith, one-wide))) ∙ put .here in
       sym (arrive-edge s 0 1 (omega arith) ∙ leave-at-once s 0 0 Right one-time

@@ -13,14 +13,14 @@ use Rattle.machine.specs.declared.Opening.{Opening}
 use Rattle.machine.specs.declared.Refusal.the-variants.{ShortRoom}
 use Rattle.machine.specs.declared.Verdict.{Verdict}
 use Rattle.machine.specs.declared.Verdict.the-variants.{Accepted}
-use Rattle.machine.proofs.Tested.{below, meaning}
+use Rattle.counting.proofs.Tested.{below, meaning}
 use Rattle.machine.proofs.Deciding.{refusal-says, Are, refused-exactly, accepted-verdict, refusal-keeps}
 use Rattle.file.specs.File.{opening, openingSaid, writingSaid}
 use Rattle.file.specs.Refusing.{inHeader, sixteen, openLines}
 use Rattle.file.proofs.Refusing.{each-opening}
 use Rattle.printed.specs.Listing.{listing}
 use Rattle.printed.specs.Listed.{roomBy, roomFor, listVerdict, listedBy}
-use Rattle.printed.specs.Refusing.{RoomShort, listLines, ListingTold}
+use Rattle.printed.specs.Refusing.{RoomShort, listLines, ListingTold, EachListing}
 
 module _ (file room : List ℕ) where
   -- how much room is asked for, by whether the file opens
@@ -50,10 +50,13 @@ module _ (file room : List ℕ) where
   room-are : Are (when (ltb (length room) (roomFor file)) ShortRoom ∷ []) (listLines file room)
   room-are = (record { numbered = refl; tested = meaning (below (length room) (roomFor file)) short-line }, λ fits. tt)
 
-  pub each-listing : ListingTold file room
-  each-listing = record {
+  listing-told : ListingTold file room
+  listing-told = record {
     exactly = refused-exactly says refl (λ why. refl) (when (ltb (length room) (roomFor file)) ShortRoom ∷ []) (listLines file room) room-are;
     values = λ accepted. ap (λ (v : Verdict). says v .values) (listed-passed accepted);
     text = λ accepted. ap (λ (v : Verdict). listedBy v (listing file) room .room) (listed-passed accepted);
     keeps = refusal-keeps says refl (λ why. refl) (λ v. listedBy v (listing file) room .room) room (λ why. refl) (listVerdict file room);
   }
+
+pub each-listing : EachListing
+each-listing = listing-told

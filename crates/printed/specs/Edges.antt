@@ -9,19 +9,18 @@ use Prim.Native.Nat.{ℕ, _+_, _≤_, _<_}
 use lib.Dec.{T}
 use Rattle.machine.specs.Places.{nameNumber}
 use Rattle.machine.specs.Memory.{Memory, largest}
-use Rattle.machine.specs.Answers.{isAccepted}
+use Rattle.machine.specs.Answers.{said, isAccepted}
 use Rattle.machine.specs.Calls.{call, setup, ask, turn, release}
-use Rattle.machine.specs.History.{Answered}
+use Rattle.machine.specs.History.{Answered, turns}
 use Rattle.text.specs.Decimal.{bytesOf}
+use Rattle.printed.specs.EndLine.{eventsOf}
 use Rattle.printed.specs.Listing.{listing}
-use Rattle.machine.specs.Worst.{turns}
 use Rattle.machine.specs.Refusing.{NoneHolds, lentLines, rangeLines}
 use Rattle.machine.specs.Demands.{SetUp, memoryAfter, historyOf, used, bound}
 use Rattle.machine.specs.declared.Settings.{Settings}
 use Rattle.machine.specs.declared.Event.{Event}
-use Rattle.machine.specs.declared.Refusal.the-variants.{Limits, NoSuchTask, OneTime, TooManyOut}
 use Rattle.machine.specs.declared.Answer.{Answer}
-use Rattle.machine.specs.declared.Answer.the-variants.{Seeks, Holds, Freed, Refused}
+use Rattle.machine.specs.declared.Answer.the-variants.{Seeks, Holds, Freed}
 
 abbrev pub settings : ℕ → ℕ → ℕ → Settings
 settings mode n k = record { mode = mode; n = n; k = k }
@@ -50,6 +49,10 @@ seeksFor (ℕ.suc count) = Seeks ∷ seeksFor count
 abbrev pub servedAt : ℕ → ℕ → List Answer
 servedAt count name = seeksFor count ++ (named name ∷ [])
 
+-- an answer is the refusal of this number
+abbrev pub Refuses : ℕ → Answer → Type 0
+Refuses n answer = said answer .number ≡ n
+
 -- the answer of one more call after a run
 abbrev pub lastOf : Settings → List Event → Event → Answer
 lastOf s events event = call s event (memoryAfter s largest events) .answer
@@ -71,10 +74,6 @@ sampleText =
     ++ (bytesOf "4 turn 0 seeks\n5 turn 0 seeks\n6 turn 0 seeks\n7 turn 0 seeks\n8 turn 0 holds 2\n"
     ++ (bytesOf "9 turn 1 seeks\n10 turn 1 seeks\n11 turn 1 seeks\n12 turn 1 holds 0\n"
     ++ bytesOf "13 free 0 freed 2\n14 turn 0 refused 6\n15 free 1 freed 0\nend 0 2 6\n"))
-
--- the first nine of the sixteen: task 0 holds
-abbrev pub sampleStart : List Event
-sampleStart = ask 0 ∷ ask 1 ∷ turn 0 ∷ turn 1 ∷ turns 5 0
 
 -- k = 5: places (0,0), (0,4), (1,0), (2,2), (4,0) have names 0, 4, 5, 11, 14
 abbrev pub FiveNames : Type 0
@@ -106,17 +105,17 @@ OneTimePair =
 
 -- The listing above, whose task 0 uses 6 turns, the bound for N = 2, k = 2
 abbrev pub TheListing : Type 0
-TheListing = (listing sample ≡ sampleText) × (used (settings 1 2 2) largest sampleStart 0 ≡ 6) × (bound (settings 1 2 2) ≡ 6)
+TheListing = (listing sample ≡ sampleText) × (used (settings 1 2 2) largest (eventsOf sample 9) 0 ≡ 6) × (bound (settings 1 2 2) ≡ 6)
 
 -- Mode 1, N = 3, k = 2, two out, the third task's ask: 7. After one is freed: accepted. The two are both at their start, or p holds, or both hold;
 -- either is freed. Behind the holder p the other needs p + 3 turns: write X, scan to p's mark, clear
 abbrev pub ThirdTask : ℕ → ℕ → ℕ → Type 0
 ThirdTask p q r =
     let both-hold : List Event = ask p ∷ ask q ∷ (turns 6 p ++ turns (p + 3) q) in
-    (lastOf (settings 1 3 2) (ask p ∷ ask q ∷ []) (ask r) ≡ Refused TooManyOut)
-    × (lastOf (settings 1 3 2) (ask p ∷ ask q ∷ turns 6 p) (ask r) ≡ Refused TooManyOut)
+    Refuses 7 (lastOf (settings 1 3 2) (ask p ∷ ask q ∷ []) (ask r))
+    × Refuses 7 (lastOf (settings 1 3 2) (ask p ∷ ask q ∷ turns 6 p) (ask r))
     × (lastOf (settings 1 3 2) (ask p ∷ ask q ∷ (turns 6 p ++ (release p ∷ []))) (ask r) ≡ Seeks)
-    × (lastOf (settings 1 3 2) both-hold (ask r) ≡ Refused TooManyOut)
+    × Refuses 7 (lastOf (settings 1 3 2) both-hold (ask r))
     × (lastOf (settings 1 3 2) both-hold (release p) ≡ Freed (record { 0 = 0 }))
     × (lastOf (settings 1 3 2) both-hold (release q) ≡ Freed (record { 0 = 1 }))
     × (lastOf (settings 1 3 2) (both-hold ++ (release p ∷ [])) (ask r) ≡ Seeks)
@@ -129,18 +128,18 @@ TwoOut = ThirdTask 0 1 2 × ThirdTask 0 2 1 × ThirdTask 1 0 2 × ThirdTask 1 2 
 abbrev pub LastIdentifier : Type 0
 LastIdentifier =
     (s : Settings) (lent : Memory) → SetUp s lent → s .n ≡ 256
-    → (call s (ask 256) (setup s lent .memory) .answer ≡ Refused NoSuchTask) × T (isAccepted (call s (ask 255) (setup s lent .memory) .answer))
+    → Refuses 4 (call s (ask 256) (setup s lent .memory) .answer) × T (isAccepted (call s (ask 255) (setup s lent .memory) .answer))
 
 -- Release in mode 0, any identifier below N: 5, also while idle
 abbrev pub NoRelease : Type 0
 NoRelease =
     (s : Settings) (m : Memory) → s .mode ≡ 0 → NoneHolds (lentLines s m (rangeLines s m [])) → (p : ℕ) → p < s .n
-    → call s (release p) m .answer ≡ Refused OneTime
+    → Refuses 5 (call s (release p) m .answer)
 
 abbrev pub NoReleaseIdle : Type 0
 NoReleaseIdle =
     (s : Settings) (lent : Memory) → SetUp s lent → s .mode ≡ 0 → (p : ℕ) → p < s .n
-    → call s (release p) (setup s lent .memory) .answer ≡ Refused OneTime
+    → Refuses 5 (call s (release p) (setup s lent .memory) .answer)
 
 -- ---- the edges of the limits
 
@@ -152,7 +151,7 @@ SetupsTaken = (mode n k : ℕ) → mode ≤ 1 → 1 ≤ n → n ≤ 256 → 1 �
 abbrev pub OutsideRefused : Type 0
 OutsideRefused =
     (s : Settings) → (s .k ≡ 17) ⊎ (((s .k ≡ 3) × (s .n ≡ 2)) ⊎ ((s .n ≡ 257) ⊎ (s .mode ≡ 2))) → (m : Memory) (event : Event)
-    → (setup s m .answer ≡ Refused Limits) × (call s event m .answer ≡ Refused Limits)
+    → Refuses 1 (setup s m .answer) × Refuses 1 (call s event m .answer)
 
 -- the table, whole
 pub record Edges : Type 0 where

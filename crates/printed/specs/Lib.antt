@@ -2,7 +2,7 @@
 pub mod Listing
 pub mod Listed
 -- What is promised of it, and the table of the starred edges.
+pub mod Text
 pub mod Refusing
 pub mod EndLine
 pub mod Edges
-pub mod Samples

@@ -7,7 +7,7 @@ use mathlib.Core.List.{List}
 use lib.Dec.{lit≤}
 use lib.ListN.{getD}
 use Rattle.machine.specs.Records.{idle, isOut, recordInRange}
-use Rattle.machine.specs.Memory.{tick, firstOr, firstBad, count}
+use Rattle.counting.specs.Counting.{tick, firstOr, firstBad, count}
 use Rattle.machine.specs.declared.Settings.{Settings}
 use Rattle.machine.specs.declared.Record.{Record}
 use Rattle.rows.specs.Rows.{seenTo}

@@ -3,7 +3,7 @@ use mathlib.Core.List.{List, [], _∷_}
 use Prim.Native.Nat.{ℕ, zero, suc}
 use lib.ListN.{getD}
 use Rattle.machine.specs.Records.{idle, isOut, recordInRange}
-use Rattle.machine.specs.Memory.{tick, firstOr, firstBad, count}
+use Rattle.counting.specs.Counting.{tick, firstOr, firstBad, count}
 use Rattle.machine.specs.declared.Settings.{Settings}
 use Rattle.machine.specs.declared.Record.{Record}
 use Rattle.rows.specs.declared.Seen.{Seen}

@@ -9,8 +9,8 @@ use borrow.Author.Count.{below-more}
 use lib.Dec.{leb, le→leb}
 use lib.ListN.{getD}
 use borrow.Author.Tests.{lt-leb}
-use Rattle.machine.specs.Memory.{firstBad}
-use Rattle.machine.proofs.Searching.{first-bad-is, none-bad}
+use Rattle.counting.specs.Counting.{firstBad}
+use Rattle.counting.proofs.Searching.{first-bad-is, none-bad}
 
 -- everything below n in a row is at most the limit
 abbrev pub Low : List ℕ → ℕ → ℕ → Type 0

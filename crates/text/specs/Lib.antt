@@ -1,2 +1,3 @@
 pub mod Decimal
+pub mod Plain
 pub mod Put

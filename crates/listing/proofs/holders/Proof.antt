@@ -6,7 +6,7 @@ use native.Mathlib.Omega.{arith}
 use borrow.Author.Needs.{needs}
 use lib.ListN.{getD}
 use Rattle.machine.specs.Records.{idle, isHolding}
-use Rattle.machine.specs.Memory.{count, tick}
+use Rattle.counting.specs.Counting.{count, tick}
 use Rattle.listing.proofs.Counting.{holding, none-holding, holding-more, tick-at-most}
 use Rattle.listing.proofs.holders.Statement.{statement}
 use Rattle.listing.proofs.holders.Tie as tie

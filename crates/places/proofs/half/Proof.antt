@@ -1,7 +1,8 @@
 -- The half product is the definition's, which computes to 0 at row 0.
 use mathlib.Core.Path.{refl}
 use native.Mathlib.Omega.{arith}
-use Rattle.machine.{specs.Places.half, proofs.Tests.tests}
+use Rattle.grid.specs.Triangle.{half}
+use Rattle.machine.proofs.Tests.{tests}
 use Rattle.places.proofs.{Counts.product-fits, half.Statement.statement}
 use Rattle.places.proofs.half.Tie as tie
 

@@ -1,7 +1,8 @@
 -- The number of a place is the definition's: the difference does not fall below 0 (`half-below`).
 use Prim.Native.Nat.{_-_, _≤_}
 use native.Mathlib.Omega.{arith}
-use Rattle.machine.{specs.Places.placeNumber, proofs.{Limits.limits, Triangle.half-below, Tests.tests}}
+use Rattle.grid.{specs.Triangle.placeNumber, proofs.Triangle.half-below}
+use Rattle.machine.proofs.{Limits.limits, Tests.tests}
 use Rattle.places.proofs.{Counts.{product-small, product-fits}, place_number.Statement.statement}
 use Rattle.places.proofs.place_number.Tie as tie
 

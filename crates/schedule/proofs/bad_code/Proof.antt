@@ -3,7 +3,8 @@ use mathlib.Core.{Path.{_≡_, sym, subst}, Bool.false}
 use Prim.Native.Nat.{ℕ, _-_, _≤_}
 use native.Mathlib.Nat.{le-antisymm}
 use borrow.Author.Tests.{lt-ltb, le-ltb}
-use Rattle.file.{specs.File.{anyBelow, codeBad}, proofs.Search.{any-found, none-more}}
+use Rattle.counting.{specs.Counting.anyBelow, proofs.Some.{any-found, none-more}}
+use Rattle.file.specs.File.{codeBad}
 use Rattle.machine.proofs.Tests.{tests}
 use Rattle.schedule.proofs.bad_code.Statement.{statement}
 use Rattle.schedule.proofs.bad_code.Tie as tie

@@ -4,7 +4,8 @@ use Prim.Native.Nat.{ℕ, _-_, _≤_}
 use native.Mathlib.Nat.{le-antisymm}
 use lib.ListN.{length}
 use borrow.Author.Tests.{lt-ltb, le-ltb}
-use Rattle.file.{specs.File.{anyBelow, numberBad}, proofs.Search.{any-found, none-more}}
+use Rattle.counting.{specs.Counting.anyBelow, proofs.Some.{any-found, none-more}}
+use Rattle.file.specs.File.{numberBad}
 use Rattle.machine.proofs.Tests.{tests}
 use Rattle.schedule.proofs.bad_number.Statement.{statement}
 use Rattle.schedule.proofs.bad_number.Tie as tie

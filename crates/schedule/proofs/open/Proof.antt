@@ -2,8 +2,8 @@
 use mathlib.Core.{Path.{_≡_, sym, ap, _∙_}, List.List}
 use Prim.Native.Nat.{ℕ}
 use native.Mathlib.Omega.{arith}
-use Rattle.file.specs.File.{countOf, codeBad, anyBelow}
-use Rattle.file.proofs.Headers.{Header, passed, opening-refused, opening-passed}
+use Rattle.counting.specs.Counting.{anyBelow}
+use Rattle.file.{specs.File.{countOf, codeBad}, proofs.Headers.{Header, passed, opening-refused, opening-passed}}
 use Rattle.machine.proofs.Tests.{tests}
 use Rattle.schedule.proofs.open.Statement.{statement}
 use Rattle.schedule.proofs.open.Tie as tie

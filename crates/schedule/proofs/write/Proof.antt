@@ -4,7 +4,8 @@ use native.Mathlib.Omega.{arith}
 use lib.ListN.{length}
 use borrow.Author.Tests.{le-ltb}
 use Rattle.machine.{specs.Refusals.outsideLimits, proofs.Tests.tests}
-use Rattle.file.specs.File.{anyBelow, numberBad, writtenOf}
+use Rattle.counting.specs.Counting.{anyBelow}
+use Rattle.file.specs.File.{numberBad, writtenOf}
 use Rattle.schedule.proofs.{Bytes.put-file, write.Statement.statement}
 use Rattle.schedule.proofs.write.Tie as tie
 

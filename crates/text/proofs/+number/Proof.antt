@@ -4,7 +4,8 @@ use mathlib.Core.Path.{_≡_}
 use Prim.Native.Nat.{ℕ, _<_}
 use native.Mathlib.Omega.{arith}
 use lib.ListN.{length, length-set}
-use borrow.{Author.Needs.needs, Fn.{Kinds.In, PlainCycle.{Measures, is, falls, and}}}
+use borrow.Author.Needs.{needs}
+use borrow.Fn.{Kinds.In, PlainCycle.{Measures, is, falls, and}}
 use denote.Ref.{now}
 use Rattle.text.specs.Decimal.{decimal}
 use Rattle.text.proofs.Digits.{one-digit-long, one-digit-longer, puts-one-digit, puts-one-digit-more}

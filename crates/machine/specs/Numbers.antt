@@ -1,0 +1,34 @@
+-- 01, "Memory that is lent" and "Rules of the grid": how many blocks and names there are, the number of each, and what the tests of a state say.
+-- Theorems: `places-numbered`, `state-told`.
+use mathlib.Core.Path.{_≡_}
+use mathlib.Core.Logic.{_↔_}
+use Prim.Native.Nat.{ℕ, _+_, _-_, _*_, _/_, _≤_}
+use lib.Dec.{T}
+use Rattle.machine.specs.Places.{blocks, blockNumber, names, nameNumber}
+use Rattle.machine.specs.Records.{isIdle, isSeeking, isHolding}
+use Rattle.machine.specs.declared.Settings.{Settings}
+use Rattle.machine.specs.declared.Point.{Point}
+use Rattle.machine.specs.declared.State.{State}
+use Rattle.machine.specs.declared.State.the-variants.{Idle, Seeking, Holding}
+
+pub record PlacesNumbered (s : Settings) : Type 0 where
+  -- "B = k(k-1)/2 blocks"
+  pub block-count : blocks s ≡ s .k * (s .k - 1) / 2
+  -- "The block at row r, column c exists where r+c ≤ k-2, and its number is r(k-1) - r(r-1)/2 + c."
+  pub block-at : (r c : ℕ) → r + c + 2 ≤ s .k → blockNumber s r c ≡ r * (s .k - 1) - r * (r - 1) / 2 + c
+  -- names lie "below k(k+1)/2"
+  pub name-count : names s ≡ s .k * (s .k + 1) / 2
+  -- "The name at (r, c) is rk - r(r-1)/2 + c."
+  pub name-at : (r c : ℕ) → r + c + 1 ≤ s .k → nameNumber s r c ≡ r * s .k - r * (r - 1) / 2 + c
+
+abbrev pub EachNumbered : Type 0
+EachNumbered = (s : Settings) → PlacesNumbered s
+
+-- "A record is idle, or seeking with r, c and a point, or holding with r, c"
+pub record StateTold (state : State) : Type 0 where
+  pub idle : T (isIdle state) ↔ (state ≡ Idle)
+  pub seeking : T (isSeeking state) ↔ ((r : ℕ) × (c : ℕ) × (point : Point) × (state ≡ Seeking r c point))
+  pub holding : T (isHolding state) ↔ ((r : ℕ) × (c : ℕ) × (state ≡ Holding r c))
+
+abbrev pub EachStateTold : Type 0
+EachStateTold = (state : State) → StateTold state
