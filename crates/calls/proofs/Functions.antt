@@ -45,27 +45,47 @@ prepared-data = struct P.the-type P′.the-laws P′.the-plain P′.the-copy
 -- what a call decides
 
 abbrev pub decide-fn : Function decide.ended
-decide-fn = record { params = (value settings-data yes, (value view-data yes, (changed u32 0 tt, (changed u8 1 tt, (value event-data yes, tt))))); result = λ _. decided-data; clauses = decide.clauses }
+decide-fn = record {
+  params = (value settings-data yes, (value view-data yes, (changed u32 0 tt, (changed u8 1 tt, (value event-data yes, tt)))));
+  result = λ _. decided-data;
+  clauses = decide.clauses;
+}
 
 abbrev pub decide-setup-fn : Function decide-setup.ended
-decide-setup-fn = record { params = (value settings-data yes, (value view-data yes, (changed u32 0 tt, (changed u8 1 tt, tt)))); result = λ _. prepared-data; clauses = decide-setup.clauses }
+decide-setup-fn = record {
+  params = (value settings-data yes, (value view-data yes, (changed u32 0 tt, (changed u8 1 tt, tt))));
+  result = λ _. prepared-data;
+  clauses = decide-setup.clauses;
+}
 
 -- the calls
 
 abbrev pub step-fn : Function step.ended
-step-fn = record { params = (value settings-data yes, (changed R 0 tt, (changed u32 1 tt, (changed u8 2 tt, (value event-data yes, tt))))); result = λ _. answer-data; clauses = step.clauses }
+step-fn = record {
+  params = (value settings-data yes, (changed R 0 tt, (changed u32 1 tt, (changed u8 2 tt, (value event-data yes, tt)))));
+  result = λ _. answer-data;
+  clauses = step.clauses;
+}
 
 abbrev pub ask-fn : Function ask.ended
-ask-fn = record { params = (value settings-data yes, (changed R 0 tt, (changed u32 1 tt, (changed u8 2 tt, (value task-data yes, tt))))); result = λ _. answer-data; clauses = ask.clauses }
+ask-fn = record {
+  params = (value settings-data yes, (changed R 0 tt, (changed u32 1 tt, (changed u8 2 tt, (value task-data yes, tt)))));
+  result = λ _. answer-data;
+  clauses = ask.clauses;
+}
 
 abbrev pub turn-fn : Function turn.ended
-turn-fn = record { params = (value settings-data yes, (changed R 0 tt, (changed u32 1 tt, (changed u8 2 tt, (value task-data yes, tt))))); result = λ _. answer-data; clauses = turn.clauses }
+turn-fn = record { params = ask-fn .params; result = ask-fn .result; clauses = turn.clauses }
 
 abbrev pub release-fn : Function release.ended
-release-fn = record { params = (value settings-data yes, (changed R 0 tt, (changed u32 1 tt, (changed u8 2 tt, (value task-data yes, tt))))); result = λ _. answer-data; clauses = release.clauses }
+release-fn = record { params = ask-fn .params; result = ask-fn .result; clauses = release.clauses }
 
 abbrev pub setup-fn : Function setup.ended
-setup-fn = record { params = (value settings-data yes, (changed R 0 tt, (changed u32 1 tt, (changed u8 2 tt, tt)))); result = λ _. answer-data; clauses = setup.clauses }
+setup-fn = record {
+  params = (value settings-data yes, (changed R 0 tt, (changed u32 1 tt, (changed u8 2 tt, tt))));
+  result = λ _. answer-data;
+  clauses = setup.clauses;
+}
 
 -- the calls by value
 
@@ -73,7 +93,15 @@ abbrev pub made-data : Data G.the-row
 made-data = struct G.the-type G′.the-laws G′.the-plain G′.the-copy
 
 abbrev pub step-of-fn : Function step-of.ended
-step-of-fn = record { params = (value settings-data yes, (value (array record-data 256) yes, (changed u32 0 tt, (changed u8 1 tt, (value event-data yes, tt))))); result = λ _. made-data; clauses = step-of.clauses }
+step-of-fn = record {
+  params = (value settings-data yes, (value (array record-data 256) yes, (changed u32 0 tt, (changed u8 1 tt, (value event-data yes, tt)))));
+  result = λ _. made-data;
+  clauses = step-of.clauses;
+}
 
 abbrev pub setup-of-fn : Function setup-of.ended
-setup-of-fn = record { params = (value settings-data yes, (value (array record-data 256) yes, (changed u32 0 tt, (changed u8 1 tt, tt)))); result = λ _. made-data; clauses = setup-of.clauses }
+setup-of-fn = record {
+  params = (value settings-data yes, (value (array record-data 256) yes, (changed u32 0 tt, (changed u8 1 tt, tt))));
+  result = λ _. made-data;
+  clauses = setup-of.clauses;
+}

@@ -9,7 +9,8 @@ use machine::Record;
 use machine::Settings;
 use machine::TaskId;
 ghost use Rattle.machine.specs.Calls.{call, setup, ask, turn, release};
-ghost use Rattle.machine.specs.Lent.{lent, Leaves};
+ghost use mathlib.Core.Path.{_≡_};
+ghost use Rattle.machine.specs.Lent.{lent, leaves};
 ghost use Rattle.calls.specs.Made.{outcomeOf};
 
 // What is called: setup, or ask, turn or release of one task.
@@ -26,7 +27,7 @@ pub struct Made {
 
 // Setup makes the N records idle, all X 0 and all marks 0.
 pub fn setup(s: Settings, records: &mut [Record], xs: &mut [u32], marks: &mut [u8]) -> Answer
-    ensures { λ answer. ⌜ Leaves (setup s (lent (now (records .entry)) (now (xs .entry)) (now (marks .entry)))) answer (now (records .exit)) (now (xs .exit)) (now (marks .exit)) ⌝ }
+    ensures { λ answer. ⌜ leaves answer (lent (now (records .exit)) (now (xs .exit)) (now (marks .exit))) ≡ setup s (lent (now (records .entry)) (now (xs .entry)) (now (marks .entry))) ⌝ }
 {
     let seen = rows::look(s, records, TaskId(0));
     let prepared = rules::setup(s, seen, xs, marks);
@@ -42,7 +43,7 @@ pub fn step(
     marks: &mut [u8],
     event: Event,
 ) -> Answer
-    ensures { λ answer. ⌜ Leaves (call s event (lent (now (records .entry)) (now (xs .entry)) (now (marks .entry)))) answer (now (records .exit)) (now (xs .exit)) (now (marks .exit)) ⌝ }
+    ensures { λ answer. ⌜ leaves answer (lent (now (records .exit)) (now (xs .exit)) (now (marks .exit))) ≡ call s event (lent (now (records .entry)) (now (xs .entry)) (now (marks .entry))) ⌝ }
 {
     let task = event.task;
     let seen = rows::look(s, records, task);
@@ -59,7 +60,7 @@ pub fn ask(
     marks: &mut [u8],
     task: TaskId,
 ) -> Answer
-    ensures { λ answer. ⌜ Leaves (call s (ask (task .0)) (lent (now (records .entry)) (now (xs .entry)) (now (marks .entry)))) answer (now (records .exit)) (now (xs .exit)) (now (marks .exit)) ⌝ }
+    ensures { λ answer. ⌜ leaves answer (lent (now (records .exit)) (now (xs .exit)) (now (marks .exit))) ≡ call s (ask (task .0)) (lent (now (records .entry)) (now (xs .entry)) (now (marks .entry))) ⌝ }
 {
     let event = Event {
         kind: Kind::Ask,
@@ -76,7 +77,7 @@ pub fn turn(
     marks: &mut [u8],
     task: TaskId,
 ) -> Answer
-    ensures { λ answer. ⌜ Leaves (call s (turn (task .0)) (lent (now (records .entry)) (now (xs .entry)) (now (marks .entry)))) answer (now (records .exit)) (now (xs .exit)) (now (marks .exit)) ⌝ }
+    ensures { λ answer. ⌜ leaves answer (lent (now (records .exit)) (now (xs .exit)) (now (marks .exit))) ≡ call s (turn (task .0)) (lent (now (records .entry)) (now (xs .entry)) (now (marks .entry))) ⌝ }
 {
     let event = Event {
         kind: Kind::Turn,
@@ -93,7 +94,7 @@ pub fn release(
     marks: &mut [u8],
     task: TaskId,
 ) -> Answer
-    ensures { λ answer. ⌜ Leaves (call s (release (task .0)) (lent (now (records .entry)) (now (xs .entry)) (now (marks .entry)))) answer (now (records .exit)) (now (xs .exit)) (now (marks .exit)) ⌝ }
+    ensures { λ answer. ⌜ leaves answer (lent (now (records .exit)) (now (xs .exit)) (now (marks .exit))) ≡ call s (release (task .0)) (lent (now (records .entry)) (now (xs .entry)) (now (marks .entry))) ⌝ }
 {
     let event = Event {
         kind: Kind::Release,
@@ -104,7 +105,7 @@ pub fn release(
 
 // Setup of records that are handed over and come back.
 fn setup_of(s: Settings, records: [Record; 256], xs: &mut [u32], marks: &mut [u8]) -> Made
-    ensures { λ made. ⌜ Leaves (setup s (lent records (now (xs .entry)) (now (marks .entry)))) (made .answer) (made .records) (now (xs .exit)) (now (marks .exit)) ⌝ }
+    ensures { λ made. ⌜ leaves (made .answer) (lent (made .records) (now (xs .exit)) (now (marks .exit))) ≡ setup s (lent records (now (xs .entry)) (now (marks .entry))) ⌝ }
 {
     let mut mine = records;
     let answer = setup(s, &mut mine, xs, marks);
@@ -122,7 +123,7 @@ fn step_of(
     marks: &mut [u8],
     event: Event,
 ) -> Made
-    ensures { λ made. ⌜ Leaves (call s event (lent records (now (xs .entry)) (now (marks .entry)))) (made .answer) (made .records) (now (xs .exit)) (now (marks .exit)) ⌝ }
+    ensures { λ made. ⌜ leaves (made .answer) (lent (made .records) (now (xs .exit)) (now (marks .exit))) ≡ call s event (lent records (now (xs .entry)) (now (marks .entry))) ⌝ }
 {
     let mut mine = records;
     let answer = step(s, &mut mine, xs, marks, event);
@@ -141,7 +142,7 @@ pub fn make(
     xs: &mut [u32],
     marks: &mut [u8],
 ) -> Made
-    ensures { λ made. ⌜ Leaves (outcomeOf s call (lent records (now (xs .entry)) (now (marks .entry)))) (made .answer) (made .records) (now (xs .exit)) (now (marks .exit)) ⌝ }
+    ensures { λ made. ⌜ leaves (made .answer) (lent (made .records) (now (xs .exit)) (now (marks .exit))) ≡ outcomeOf s call (lent records (now (xs .entry)) (now (marks .entry))) ⌝ }
 {
     match call {
         Call::Setup => setup_of(s, records, xs, marks),

@@ -277,7 +277,7 @@ fn no_marks() -> [u8; 30720]
 // Setup on fresh memory, and the line that says the settings.
 fn begin(s: Settings, room: &mut [u8], xs: &mut [u32], marks: &mut [u8]) -> Standing
     requires { ⌜ 23 ≤ length (now room) ⌝ }
-    ensures { λ to. ⌜ Begun s (now (xs .entry)) (now (marks .entry)) (now (room .entry)) to (now (xs .exit)) (now (marks .exit)) (now (room .exit)) ⌝ }
+    ensures { λ to. ⌜ Begun s (lent (replicate 256 idle) (now (xs .entry)) (now (marks .entry))) (now (room .entry)) to (lent (to .records) (now (xs .exit)) (now (marks .exit))) (now (room .exit)) ⌝ }
 {
     let made = make(s, Call::Setup, idle_records(), xs, marks);
     let at = put_grid(room, s);
@@ -318,7 +318,7 @@ fn advance(
     marks: &mut [u8],
 ) -> Standing
     requires { ⌜ (s .n ≤ 256) × ((p : ℕ) → getD (at .turns) p 0 < 65535) × (at .at + 31 ≤ length (now room)) ⌝ }
-    ensures { λ to. ⌜ Advanced s position event at (now (xs .entry)) (now (marks .entry)) (now (room .entry)) to (now (xs .exit)) (now (marks .exit)) (now (room .exit)) ⌝ }
+    ensures { λ to. ⌜ Advanced s position event at (lent (at .records) (now (xs .entry)) (now (marks .entry))) (now (room .entry)) to (lent (to .records) (now (xs .exit)) (now (marks .exit))) (now (room .exit)) ⌝ }
 {
     let before = at.records;
     let made = make(s, Call::Of(event), before, xs, marks);

@@ -13,13 +13,21 @@ use Rattle.memories.proofs.turn_on as turn-on
 use Rattle.memories.proofs.release_on as release-on
 
 abbrev pub setup-on-fn : Function setup-on.ended
-setup-on-fn = record { params = (value settings-data yes, (value (array record-data 256) yes, (value (number w8) yes, (changed u32 0 tt, (changed u8 1 tt, tt))))); result = λ _. made-data; clauses = setup-on.clauses }
+setup-on-fn = record {
+  params = (value settings-data yes, (value (array record-data 256) yes, (value (number w8) yes, (changed u32 0 tt, (changed u8 1 tt, tt)))));
+  result = λ _. made-data;
+  clauses = setup-on.clauses;
+}
 
 abbrev pub ask-on-fn : Function ask-on.ended
-ask-on-fn = record { params = (value settings-data yes, (value (array record-data 256) yes, (value (number w8) yes, (changed u32 0 tt, (changed u8 1 tt, (value task-data yes, tt)))))); result = λ _. made-data; clauses = ask-on.clauses }
+ask-on-fn = record {
+  params = (value settings-data yes, (value (array record-data 256) yes, (value (number w8) yes, (changed u32 0 tt, (changed u8 1 tt, (value task-data yes, tt))))));
+  result = λ _. made-data;
+  clauses = ask-on.clauses;
+}
 
 abbrev pub turn-on-fn : Function turn-on.ended
-turn-on-fn = record { params = (value settings-data yes, (value (array record-data 256) yes, (value (number w8) yes, (changed u32 0 tt, (changed u8 1 tt, (value task-data yes, tt)))))); result = λ _. made-data; clauses = turn-on.clauses }
+turn-on-fn = record { params = ask-on-fn .params; result = ask-on-fn .result; clauses = turn-on.clauses }
 
 abbrev pub release-on-fn : Function release-on.ended
-release-on-fn = record { params = (value settings-data yes, (value (array record-data 256) yes, (value (number w8) yes, (changed u32 0 tt, (changed u8 1 tt, (value task-data yes, tt)))))); result = λ _. made-data; clauses = release-on.clauses }
+release-on-fn = record { params = ask-on-fn .params; result = ask-on-fn .result; clauses = release-on.clauses }

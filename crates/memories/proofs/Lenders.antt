@@ -7,18 +7,11 @@ use lib.ListN.{length, take, drop, take-append-drop}
 use lib.Seq.{length-take-le}
 use mir.Syntax.{w8}
 use denote.Slice.{Room}
-use denote.Struct.Laws.{owes}
 use Rattle.machine.specs.Calls.{Outcome}
 use Rattle.machine.specs.declared.Record.{Record}
-use Rattle.machine.proofs.Record as T
-use Rattle.machine.proofs.Record.Laws as T′
 use Rattle.walks.proofs.Data.{Real, number, array}
-use Rattle.walks.proofs.Arrays.{as-field}
 use Rattle.rows.proofs.Functions.{R, record-data}
 use Rattle.calls.specs.declared.Made.{Made}
-use Rattle.calls.proofs.Made as G
-use Rattle.calls.proofs.Made.Laws as G′
-use Rattle.calls.proofs.Functions.{answer-data, made-data}
 
 module _ (records : List Record) (n : ℕ) where
   abbrev pub front : List Record
@@ -33,9 +26,6 @@ module _ (records : List Record) (n : ℕ) where
   -- what a call on the first records leaves, with its answer
   abbrev pub given-back : Outcome → Made
   given-back outcome = record { records = outcome .memory .records ++ rest; answer = outcome .answer }
-
-  pub given-back-is : (outcome : Outcome) → Real (array record-data 256) (outcome .memory .records ++ rest) → Real answer-data (outcome .answer) → Real made-data (given-back outcome)
-  given-back-is outcome records-are answer-is = owes G.the-type G′.the-laws (given-back outcome) (as-field T.the-type T′.the-laws 256 (outcome .memory .records ++ rest) records-are, (answer-is, tt))
 
   module _ (records-are : Real (array record-data 256) records) (n-is : Real (number w8) n) where
     few : n < 2 ^ 8

@@ -1,12 +1,12 @@
 -- How large the counts and the numbers of the grid are, and that a mark stands among the marks that are needed.
 use mathlib.Core.Path.{_≡_}
-use Prim.Native.Nat.{ℕ, suc, _+_, _*_, _-_, _≤_, _<_}
-use native.Mathlib.{Omega.arith, Nat.{mul-le-mul, mul-le-mul-right, suc-mul}}
+use Prim.Native.Nat.{ℕ, _+_, _*_, _≤_, _<_}
+use native.Mathlib.{Omega.arith, Nat.mul-le-mul}
 use mir.{Syntax.{w16, w64}, Val.Fits}
 use Rattle.machine.specs.{Settings.width, Places.blocks, Memory.{marksNeeded, markIndex}, declared.Settings.Settings}
 use Rattle.machine.specs.Ranges.{WithinLimits}
-use Rattle.machine.proofs.Limits.{width-most}
-use Rattle.grid.specs.Triangle.{half, placeNumber}
+use Rattle.machine.proofs.{Limits.width-most, Cells.earlier-block}
+use Rattle.grid.{specs.Triangle.placeNumber, proofs.Triangle.half-most}
 
 -- products of the grid's numbers fit, also with one more such number added
 module _ (a b : ℕ) (small-a : a ≤ 256) (small-b : b ≤ 256) where
@@ -25,12 +25,8 @@ unfolding placeNumber
 place-number-fits side r c small low =
     omega (arith, mul-le-mul {n₁ = r} {m₁ = side} {n₂ = 16} {m₂ = 16} (omega arith) small)
 
-pub half-small : (r : ℕ) → r ≤ 16 → half r ≤ 120
-unfolding half
-half-small r small = omega (arith, mul-le-mul {n₁ = r} {m₁ = r - 1} {n₂ = 16} {m₂ = 15} small (omega arith))
-
 pub blocks-most : (s : Settings) → WithinLimits s → blocks s ≤ 120
-blocks-most s limit = half-small (s .k) (limit .k-most)
+blocks-most s limit = half-most (s .k) (limit .k-most)
 
 -- all blocks have a count of marks, and each the same
 pub marks-of : (s : Settings) (count each : ℕ) → count ≡ blocks s → each ≡ width s → count * each ≡ marksNeeded s
@@ -42,6 +38,4 @@ marks-most s limit =
 
 pub mark-index-below : (s : Settings) (block place : ℕ) → block < blocks s → place < width s
     → markIndex s block place < marksNeeded s
-mark-index-below s block place b p =
-    let room = mul-le-mul-right {m = suc block} {n = blocks s} (width s) (omega arith) in
-    omega (arith, suc-mul block (width s))
+mark-index-below s block place b p = earlier-block (width s) block place (blocks s) b p

@@ -1,42 +1,54 @@
--- What an accepted verdict tells of the settings, the rows and the task.
-use mathlib.Core.Path.{_≡_, sym, subst}
+-- What an accepted verdict tells: of the settings, the rows and the task, of the one access, and of the next record.
+use mathlib.Core.Path.{_≡_, sym, subst, ap}
 use mathlib.Core.Bool.{false}
-use mathlib.Core.List.{List}
 use Prim.Native.Nat.{ℕ, _<_}
-use lib.Dec.{T, ltb, leb}
+use lib.Dec.{T}
 use borrow.Author.Tests.{leb-false, not-false}
 use Rattle.machine.specs.Settings.{permitted}
 use Rattle.machine.specs.Records.{recordInRange}
-use Rattle.machine.specs.Refusals.{wrongMoment, lentCases, rangeCases, taskCases, verdict}
-use Rattle.machine.specs.declared.Settings.{Settings}
-use Rattle.machine.specs.declared.View.{View}
-use Rattle.machine.specs.declared.Kind.{Kind}
-use Rattle.machine.specs.declared.Verdict.{Verdict}
+use Rattle.machine.specs.Memory.{Memory}
+use Rattle.machine.specs.Turn.{access, next}
+use Rattle.machine.specs.Refusals.{wrongMoment, lentCases, rangeCases, taskCases}
+use Rattle.machine.specs.OneAccess.{RegisterNeeded}
+use Rattle.machine.specs.declared.{Settings.Settings, View.View, Record.Record, Access.Access, Kind.Kind, Verdict.Verdict}
 use Rattle.machine.proofs.Deciding.{no-case}
-use Rattle.rules.specs.Decision.{Sees}
+use Rattle.machine.proofs.Limits.{limits}
+use Rattle.machine.proofs.OneAccess.{access-needed}
+use Rattle.machine.proofs.Fitting as fitting
+use Rattle.rules.specs.Decision.{Sees, seenVerdict, Touched, touched, touching}
 use Rattle.rules.proofs.Rows.{Long, none-short}
 
-pub record Accepts (s : Settings) (kind : Kind) (p : ℕ) (seen : View) (xs marks : List ℕ) : Type 0 where
+pub record Accepts (s : Settings) (kind : Kind) (p : ℕ) (seen : View) (m : Memory) : Type 0 where
   pub limits : T (permitted s)
-  pub long : Long s (seen .length) xs marks
-  pub none-bad : ltb (seen .bad) (s .n) ≡ false
+  pub long : Long s (seen .length) m
   pub known : p < s .n
   pub moment : wrongMoment kind (seen .own .state) ≡ false
+  pub own-in-range : T (recordInRange s (seen .own))
 
-pub accepts : (s : Settings) (kind : Kind) (p : ℕ) (seen : View) (xs marks : List ℕ) → verdict s kind p seen xs marks ≡ Verdict.Accepted
-    → Accepts s kind p seen xs marks
-accepts s kind p seen xs marks e =
-    let (inside, (long, (records, (x-numbers, (mark-row, (known, (lived, (moment, last)))))))) =
-    no-case (lentCases s seen xs marks (rangeCases s seen xs marks (taskCases s kind p seen))) e in
+pub accepts : (s : Settings) (kind : Kind) (p : ℕ) (seen : View) (m : Memory) → Sees s p seen
+    → seenVerdict s kind p seen m ≡ Verdict.Accepted → Accepts s kind p seen m
+accepts s kind p seen m sees e =
+    let (inside, (short, (records, (x-numbers, (mark-row, (unknown, (lived, (moment, last)))))))) =
+    no-case (lentCases s seen (m .xs) (m .marks) (rangeCases s seen (m .xs) (m .marks) (taskCases s kind p seen))) e in
+    let known = leb-false (s .n) p unknown in
     record {
       limits = subst T (sym (not-false (permitted s) inside)) tt;
-      long = none-short s (seen .length) xs marks long;
-      none-bad = records;
-      known = leb-false (s .n) p known;
+      long = none-short s (seen .length) m short;
+      known = known;
       moment = moment;
+      own-in-range = sees records known;
     }
 
--- the task's own record is then in range
-pub own-in-range : (s : Settings) (kind : Kind) (p : ℕ) (seen : View) (xs marks : List ℕ) → Sees s p seen → Accepts s kind p seen xs marks
-    → T (recordInRange s (seen .own))
-own-in-range s kind p seen xs marks sees ok = sees (ok .none-bad) (ok .known)
+module _ {s : Settings} {kind : Kind} {p : ℕ} {seen : View} {m : Memory} (ok : Accepts s kind p seen m) (touch : Access)
+    (is : touch ≡ access s kind p (seen .own .state)) where
+  -- the access is of a register that is needed
+  pub touch-needed : RegisterNeeded s touch
+  touch-needed = rw is (access-needed s (limits s (ok .limits)) p (ok .known) kind (seen .own .state) (ok .own-in-range))
+
+  -- the record after it is in range
+  pub next-in-range : (v : ℕ) (left : Memory) (new : Record) → touched v left ≡ touching s touch m
+      → new ≡ record { state = next s kind p (seen .own .state) v } → T (recordInRange s new)
+  next-in-range v left new read stands =
+      let value = ap (λ (t : Touched). t .value) read in
+      let good = fitting.next-in-range s (limits s (ok .limits)) kind p (seen .own .state) m (ok .moment) (ok .own-in-range) in
+      rw (stands, value, is) good

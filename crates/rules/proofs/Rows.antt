@@ -1,7 +1,7 @@
 -- What it says of the rows that none is short, and what it says that the tests of what is lent pass.
 use mathlib.Core.Path.{_≡_, refl, ap, _∙_}
 use mathlib.Core.Bool.{Bool, true, false, not, _||_, cond}
-use mathlib.Core.List.{List, []}
+use mathlib.Core.List.{[]}
 use Prim.Native.Nat.{ℕ, _≤_}
 use native.Mathlib.Omega.{arith}
 use lib.Dec.{T, ltb}
@@ -9,13 +9,14 @@ use lib.ListN.{length}
 use borrow.Author.Tests.{ltb-false}
 use Rattle.machine.specs.Settings.{permitted}
 use Rattle.machine.specs.Places.{blocks}
-use Rattle.machine.specs.Memory.{marksNeeded, badX, badMark}
-use Rattle.machine.specs.Refusals.{first, outsideLimits, rowShort, lentCases, rangeCases, taskCases, verdict}
+use Rattle.machine.specs.Memory.{Memory, marksNeeded, badX, badMark}
+use Rattle.machine.specs.Refusals.{first, outsideLimits, rowShort, rangeCases, taskCases}
 use Rattle.machine.specs.declared.Settings.{Settings}
 use Rattle.machine.specs.declared.View.{View}
 use Rattle.machine.specs.declared.Kind.{Kind}
 use Rattle.machine.specs.declared.Refusal.{Refusal}
 use Rattle.machine.specs.declared.Verdict.{Verdict}
+use Rattle.rules.specs.Decision.{seenVerdict, seenSetupVerdict}
 
 none-of-three : (a b c : Bool) → a || (b || c) ≡ false → (a ≡ false) × (b ≡ false) × (c ≡ false)
 none-of-three true b c e = absurd (let z : _≡_ {A = ℕ} 0 1 = cc in omega arith)
@@ -23,35 +24,36 @@ none-of-three false true c e = absurd (let z : _≡_ {A = ℕ} 0 1 = cc in omega
 none-of-three false false c e = (refl, refl, e)
 
 -- the rows have at least what is needed
-pub record Long (s : Settings) (records : ℕ) (xs marks : List ℕ) : Type 0 where
+pub record Long (s : Settings) (records : ℕ) (m : Memory) : Type 0 where
   pub records-long : s .n ≤ records
-  pub xs-long : blocks s ≤ length xs
-  pub marks-long : marksNeeded s ≤ length marks
+  pub xs-long : blocks s ≤ length (m .xs)
+  pub marks-long : marksNeeded s ≤ length (m .marks)
 
-pub none-short : (s : Settings) (records : ℕ) (xs marks : List ℕ) → rowShort s records xs marks ≡ false → Long s records xs marks
-none-short s records xs marks e =
-    let each = none-of-three (ltb records (s .n)) (ltb (length xs) (blocks s)) (ltb (length marks) (marksNeeded s)) e in
+pub none-short : (s : Settings) (records : ℕ) (m : Memory) → rowShort s records (m .xs) (m .marks) ≡ false → Long s records m
+none-short s records m e =
+    let each = none-of-three (ltb records (s .n)) (ltb (length (m .xs)) (blocks s)) (ltb (length (m .marks)) (marksNeeded s)) e in
     record {
       records-long = ltb-false records (s .n) (each .0);
-      xs-long = ltb-false (length xs) (blocks s) (each .1);
-      marks-long = ltb-false (length marks) (marksNeeded s) (each .2);
+      xs-long = ltb-false (length (m .xs)) (blocks s) (each .1);
+      marks-long = ltb-false (length (m .marks)) (marksNeeded s) (each .2);
     }
 
--- the two tests of what is lent pass
-pub record Lent (s : Settings) (seen : View) (xs marks : List ℕ) : Type 0 where
-  pub limits : T (permitted s)
-  pub rows : rowShort s (seen .length) xs marks ≡ false
-
-lent-of : (ok short : Bool) (why other : Refusal) → cond (not ok) (Verdict.Refused why) (cond short (Verdict.Refused other) Verdict.Accepted) ≡ Verdict.Accepted
-    → T ok × (short ≡ false)
+lent-of : (ok short : Bool) (why other : Refusal)
+    → cond (not ok) (Verdict.Refused why) (cond short (Verdict.Refused other) Verdict.Accepted) ≡ Verdict.Accepted → T ok × (short ≡ false)
 lent-of false short why other e = absurd (let z : _≡_ {A = ℕ} 0 1 = cc in omega arith)
 lent-of true true why other e = absurd (let z : _≡_ {A = ℕ} 0 1 = cc in omega arith)
 lent-of true false why other e = (tt, refl)
 
-pub lent-passes : (s : Settings) (seen : View) (xs marks : List ℕ) → first (lentCases s seen xs marks []) ≡ Verdict.Accepted → Lent s seen xs marks
-lent-passes s seen xs marks e =
-    let both = lent-of (permitted s) (rowShort s (seen .length) xs marks) Refusal.Limits Refusal.ShortRow e in
-    record { limits = both .0; rows = both .1 }
+-- the two tests of what is lent pass
+pub record Lent (s : Settings) (seen : View) (m : Memory) : Type 0 where
+  pub limits : T (permitted s)
+  pub none-is-short : rowShort s (seen .length) (m .xs) (m .marks) ≡ false
+  pub long : Long s (seen .length) m
+
+pub lent-passes : (s : Settings) (seen : View) (m : Memory) → seenSetupVerdict s seen m ≡ Verdict.Accepted → Lent s seen m
+lent-passes s seen m e =
+    let (limits, short) = lent-of (permitted s) (rowShort s (seen .length) (m .xs) (m .marks)) Refusal.Limits Refusal.ShortRow e in
+    record { limits = limits; none-is-short = short; long = none-short s (seen .length) m short }
 
 -- ---- the verdict by its three parts
 
@@ -72,10 +74,12 @@ three-then : (a b c : Bool) (x y z : Refusal) (later : Verdict)
 three-then true b c x y z later = refl
 three-then false b c x y z later = two-then b c y z later
 
-pub verdict-parts : (s : Settings) (kind : Kind) (p : ℕ) (seen : View) (xs marks : List ℕ)
-    → verdict s kind p seen xs marks
-    ≡ then (first (lentCases s seen xs marks [])) (then (first (rangeCases s seen xs marks [])) (first (taskCases s kind p seen)))
-verdict-parts s kind p seen xs marks =
-    two-then (outsideLimits s) (rowShort s (seen .length) xs marks) Refusal.Limits Refusal.ShortRow (first (rangeCases s seen xs marks (taskCases s kind p seen)))
-    ∙ ap (then (first (lentCases s seen xs marks [])))
-    (three-then (ltb (seen .bad) (s .n)) (ltb (badX s xs) (blocks s)) (ltb (badMark s marks) (marksNeeded s)) _ _ _ (first (taskCases s kind p seen)))
+pub verdict-parts : (s : Settings) (kind : Kind) (p : ℕ) (seen : View) (m : Memory)
+    → seenVerdict s kind p seen m
+    ≡ then (seenSetupVerdict s seen m) (then (first (rangeCases s seen (m .xs) (m .marks) [])) (first (taskCases s kind p seen)))
+verdict-parts s kind p seen m =
+    two-then (outsideLimits s) (rowShort s (seen .length) (m .xs) (m .marks)) Refusal.Limits Refusal.ShortRow
+    (first (rangeCases s seen (m .xs) (m .marks) (taskCases s kind p seen)))
+    ∙ ap (then (seenSetupVerdict s seen m))
+    (three-then (ltb (seen .bad) (s .n)) (ltb (badX s (m .xs)) (blocks s)) (ltb (badMark s (m .marks)) (marksNeeded s)) _ _ _
+    (first (taskCases s kind p seen)))

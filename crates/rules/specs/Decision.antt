@@ -1,5 +1,5 @@
--- What a call decides from what it sees of the records and from the rows of X numbers and marks: the definitions of the machine, without the
--- row of records.
+-- What a call decides from what it sees of the records and from the rows of registers: the definitions of the machine, without the row of
+-- records. An outcome holds one memory; the rows are put together in `rows` and nowhere else.
 use mathlib.Core.Path.{_≡_}
 use mathlib.Core.Bool.{false}
 use mathlib.Core.List.{List, []}
@@ -29,60 +29,67 @@ rows xs marks = record { records = []; xs = xs; marks = marks }
 abbrev pub Sees : Settings → ℕ → View → Type 0
 Sees s p seen = ltb (seen .bad) (s .n) ≡ false → p < s .n → T (recordInRange s (seen .own))
 
+-- what the tests say of a view and the registers
+abbrev pub seenVerdict : Settings → Kind → ℕ → View → Memory → Verdict
+seenVerdict s kind p seen m = verdict s kind p seen (m .xs) (m .marks)
+
+abbrev pub seenSetupVerdict : Settings → View → Memory → Verdict
+seenSetupVerdict s seen m = setupVerdict s seen (m .xs) (m .marks)
+
 -- ---- one access
 
--- the value read, and the rows afterwards
+-- the value read, and the registers afterwards
 pub record Touched : Type 0 where
   pub value : ℕ
-  pub xs : List ℕ
-  pub marks : List ℕ
+  pub memory : Memory
 
 abbrev pub touching : Settings → Access → Memory → Touched
-touching s touch m = record { value = value s touch m; xs = store s touch m .xs; marks = store s touch m .marks }
+touching s touch m = record { value = value s touch m; memory = store s touch m }
 
-abbrev pub touched : ℕ → List ℕ → List ℕ → Touched
-touched value xs marks = record { value = value; xs = xs; marks = marks }
+abbrev pub touched : ℕ → Memory → Touched
+touched value m = record { value = value; memory = m }
 
 -- ---- ask, turn and release
 
--- the answer, the task's record to put back, and the rows afterwards
+-- the answer, the task's record to put back, and the registers afterwards
 pub record Decision : Type 0 where
   pub answer : Answer
   pub own : Record
-  pub xs : List ℕ
-  pub marks : List ℕ
+  pub memory : Memory
 
 abbrev pub decisionBy : Verdict → Settings → Kind → ℕ → View → Memory → Decision
 decisionBy Verdict.Accepted s kind p seen m = record {
   answer = answerOf s kind (seen .own .state) (nextState s kind p (seen .own .state) m);
   own = record { state = nextState s kind p (seen .own .state) m };
-  xs = store s (access s kind p (seen .own .state)) m .xs;
-  marks = store s (access s kind p (seen .own .state)) m .marks;
+  memory = store s (access s kind p (seen .own .state)) m;
 }
-decisionBy (Verdict.Refused why) s kind p seen m = record { answer = Answer.Refused why; own = seen .own; xs = m .xs; marks = m .marks }
+decisionBy (Verdict.Refused why) s kind p seen m = record { answer = Answer.Refused why; own = seen .own; memory = m }
 
-abbrev pub decision : Settings → Kind → ℕ → View → List ℕ → List ℕ → Decision
-decision s kind p seen xs marks = decisionBy (verdict s kind p seen xs marks) s kind p seen (rows xs marks)
+abbrev pub decision : Settings → Kind → ℕ → View → Memory → Decision
+decision s kind p seen m = decisionBy (seenVerdict s kind p seen m) s kind p seen m
 
 -- what the code returns and leaves, as a decision
-abbrev pub decided : Decided → List ℕ → List ℕ → Decision
-decided result xs marks = record { answer = result .answer; own = result .own; xs = xs; marks = marks }
+abbrev pub decided : Decided → Memory → Decision
+decided result m = record { answer = result .answer; own = result .own; memory = m }
 
 -- ---- setup
 
--- the answer, how many records are to be made idle, and the rows afterwards
+-- the answer, how many records are to be made idle, and the registers afterwards
 pub record Preparation : Type 0 where
   pub answer : Answer
   pub fresh : ℕ
-  pub xs : List ℕ
-  pub marks : List ℕ
+  pub memory : Memory
 
-abbrev pub preparationBy : Verdict → Settings → List ℕ → List ℕ → Preparation
-preparationBy Verdict.Accepted s xs marks = record { answer = Answer.Done; fresh = s .n; xs = fill (blocks s) 0 xs; marks = fill (marksNeeded s) 0 marks }
-preparationBy (Verdict.Refused why) s xs marks = record { answer = Answer.Refused why; fresh = 0; xs = xs; marks = marks }
+-- the needed registers become 0
+abbrev pub zeroed : Settings → Memory → Memory
+zeroed s m = rows (fill (blocks s) 0 (m .xs)) (fill (marksNeeded s) 0 (m .marks))
 
-abbrev pub preparation : Settings → View → List ℕ → List ℕ → Preparation
-preparation s seen xs marks = preparationBy (setupVerdict s seen xs marks) s xs marks
+abbrev pub preparationBy : Verdict → Settings → Memory → Preparation
+preparationBy Verdict.Accepted s m = record { answer = Answer.Done; fresh = s .n; memory = zeroed s m }
+preparationBy (Verdict.Refused why) s m = record { answer = Answer.Refused why; fresh = 0; memory = m }
 
-abbrev pub prepared : Prepared → List ℕ → List ℕ → Preparation
-prepared result xs marks = record { answer = result .answer; fresh = result .fresh; xs = xs; marks = marks }
+abbrev pub preparation : Settings → View → Memory → Preparation
+preparation s seen m = preparationBy (seenSetupVerdict s seen m) s m
+
+abbrev pub prepared : Prepared → Memory → Preparation
+prepared result m = record { answer = result .answer; fresh = result .fresh; memory = m }

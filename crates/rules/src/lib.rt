@@ -229,7 +229,7 @@ fn verdict(s: Settings, kind: Kind, seen: View, xs: &[u32], marks: &[u8], task: 
 // Makes the one access, and returns the value read; 0 where nothing is read.
 fn touch(s: Settings, access: Access, xs: &mut [u32], marks: &mut [u8]) -> u32
     requires { ⌜ T (permitted s) × RegisterNeeded s access × (blocks s ≤ length (now xs)) × (marksNeeded s ≤ length (now marks)) ⌝ }
-    ensures { λ v. ⌜ touched v (now (xs .exit)) (now (marks .exit)) ≡ touching s access (rows (now (xs .entry)) (now (marks .entry))) ⌝ }
+    ensures { λ v. ⌜ touched v (rows (now (xs .exit)) (now (marks .exit))) ≡ touching s access (rows (now (xs .entry)) (now (marks .entry))) ⌝ }
 {
     match access {
         Access::NoAccess => 0,
@@ -288,7 +288,7 @@ fn clear_marks(marks: &mut [u8], n: usize)
 // Setup: the needed X numbers and marks become 0, and all N records are to be made idle; a refusal
 // changes nothing.
 pub fn setup(s: Settings, seen: View, xs: &mut [u32], marks: &mut [u8]) -> Prepared
-    ensures { λ p. ⌜ prepared p (now (xs .exit)) (now (marks .exit)) ≡ preparation s seen (now (xs .entry)) (now (marks .entry)) ⌝ }
+    ensures { λ p. ⌜ prepared p (rows (now (xs .exit)) (now (marks .exit))) ≡ preparation s seen (rows (now (xs .entry)) (now (marks .entry))) ⌝ }
 {
     match lent_verdict(s, seen, xs, marks) {
         Verdict::Refused(why) => Prepared {
@@ -310,7 +310,7 @@ pub fn setup(s: Settings, seen: View, xs: &mut [u32], marks: &mut [u8]) -> Prepa
 // a refusal changes nothing.
 pub fn decide(s: Settings, seen: View, xs: &mut [u32], marks: &mut [u8], event: Event) -> Decided
     requires { ⌜ Sees s (event .task .0) seen ⌝ }
-    ensures { λ d. ⌜ decided d (now (xs .exit)) (now (marks .exit)) ≡ decision s (event .kind) (event .task .0) seen (now (xs .entry)) (now (marks .entry)) ⌝ }
+    ensures { λ d. ⌜ decided d (rows (now (xs .exit)) (now (marks .exit))) ≡ decision s (event .kind) (event .task .0) seen (rows (now (xs .entry)) (now (marks .entry))) ⌝ }
 {
     let kind = event.kind;
     let task = event.task;

@@ -6,7 +6,8 @@ use lib.{ListN.{length, getD, length-append, List·getD-append}, Seq.getD-at}
 use Rattle.text.specs.{Decimal.decimal, Plain.{valueFrom, Plain, DecimalPlain}}
 use Rattle.text.proofs.Digits.{one-digit, one-digit-more}
 
-value-behind : (value : ℕ) (text : List ℕ) (digit : ℕ) → valueFrom value (text ++ (digit ∷ [])) ≡ 10 * valueFrom value text + (digit - 48)
+value-behind : (value : ℕ) (text : List ℕ) (digit : ℕ)
+    → valueFrom value (text ++ (digit ∷ [])) ≡ 10 * valueFrom value text + (digit - 48)
 value-behind value [] digit = refl
 value-behind value (first ∷ text) digit = value-behind (10 * value + (first - 48)) text digit
 
@@ -28,7 +29,8 @@ module _ (n digit : ℕ) (some-left : 1 ≤ n) (small : digit < 10) where
   plain-more : (text : List ℕ) → Plain n text → Plain (10 * n + digit) (text ++ ((48 + digit) ∷ []))
   plain-more text p =
       let one-more = length-append text ((48 + digit) ∷ []) in
-      let first : getD (text ++ ((48 + digit) ∷ [])) 0 0 ≡ getD text 0 0 = List·getD-append text ((48 + digit) ∷ []) 0 0 (p .some) in
+      let first : getD (text ++ ((48 + digit) ∷ [])) 0 0 ≡ getD text 0 0 =
+      List·getD-append text ((48 + digit) ∷ []) 0 0 (p .some) in
       record {
         some = omega (arith, one-more);
         digits = λ i low. go i low (ℕ-discrete i (length text));
@@ -52,8 +54,10 @@ plain-below (suc most) n l = go (plain-below most (n / 10)) (decLt n 10)
     go less (yes small) = subst (Plain n) (sym (one-digit n small)) (plain-one n small)
     go less (no large) =
         let whole : 10 * (n / 10) + n % 10 ≡ n = omega arith in
+        let tenth = less (omega arith) in
+        let more = plain-more (n / 10) (n % 10) (omega arith) (omega arith) (decimal (n / 10)) tenth in
         subst (λ (m : ℕ). Plain m (decimal n)) whole
-        (subst (Plain (10 * (n / 10) + n % 10)) (sym (one-digit-more n (omega arith))) (plain-more (n / 10) (n % 10) (omega arith) (omega arith) (decimal (n / 10)) (less (omega arith))))
+        (subst (Plain (10 * (n / 10) + n % 10)) (sym (one-digit-more n (omega arith))) more)
 
 pub decimal-plain : DecimalPlain
 decimal-plain n = plain-below (suc n) n (le-refl (suc n))

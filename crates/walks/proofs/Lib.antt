@@ -10,3 +10,4 @@ pub mod Counting
 pub mod Lending
 pub mod Arrays
 pub mod Fronts
+pub mod Prelude

@@ -129,6 +129,11 @@ module _ {M : Type 1} {𝓤 : URA M} {H : Heap 𝓤} {A : Atoms 𝓤} {K : Type 
       → Rv K W Γ E (aggregate (copy (place j []) ∷ copy (place k (field f ∷ [])) ∷ [])) (vstruct (ofList (u ∷ getV vs f ∷ [])))
   refers t p e within found = agg t (and-then t (copies t p) (and-then t (copies-field t e within found) (no-more t)))
 
+  -- two locals, put together as a struct
+  pub joins : K → {j k : ℕ} {u v : Val} → entry 𝓤 H A Γ E j ≡ cell 𝓤 H A Γ E j u → entry 𝓤 H A Γ E k ≡ cell 𝓤 H A Γ E k v
+      → Rv K W Γ E (aggregate (copy (place j []) ∷ copy (place k []) ∷ [])) (vstruct (ofList (u ∷ v ∷ [])))
+  joins t p q = agg t (and-then t (copies t p) (and-then t (copies t q) (no-more t)))
+
   -- the same value, written another way
   pub means : K → {rv : RValue} {u v : Val} → u ≡ v → Rv K W Γ E rv u → Rv K W Γ E rv v
   means t {rv} e r = subst (λ (w : Val). Rv K W Γ E rv w) e r

@@ -4,6 +4,7 @@ use Prim.Native.Nat.{max}
 use lib.ListN.{getD}
 use Rattle.printed.specs.Listing.{turnsAfter, completed}
 use denote.Ref.{now}
+use Rattle.machine.specs.Lent.{lent}
 use Rattle.listing.proofs.Running.{stands-advanced}
 use borrow.Author.Needs.{needs}
 use Rattle.listing.proofs.advance.Statement.{statement}
@@ -52,9 +53,9 @@ returns c =
     let turns = c3 .before .before .turns-after .ensures in
     let used : c3 .completed .result ≡ completed (c1 .make .result .answer) (getD (turnsAfter (a .event) (c1 .make .result .answer) (a .at .turns)) (a .event .task .0) 0) =
     c3 .completed .ensures ∙ rw (c3 .before .turns-of .ensures, turns) refl in
-    stands-advanced (a .s) (a .position) (a .event) (a .at) (now (a .xs)) (now (a .marks)) (now (a .room)) _ (c1 .make .result) _ _ _ (c1 .make .ensures) turns
-    (c4 .before .larger .ensures ∙ ap (max (a .at .peak)) (c4 .before .before .holders .ensures .0)) (c4 .larger2 .ensures ∙ ap (max (a .at .most)) used)
-    (c5 .put-event .ensures) refl
+    stands-advanced (a .s) (a .position) (a .event) (a .at) (lent (a .at .records) (now (a .xs)) (now (a .marks))) (now (a .room)) _ _ _
+    (c1 .make .ensures) turns (c4 .before .larger .ensures ∙ ap (max (a .at .peak)) (c4 .before .before .holders .ensures .0))
+    (c4 .larger2 .ensures ∙ ap (max (a .at .most)) used) (c5 .put-event .ensures)
 
 pub advance-spec : {M : Type 1} → statement M
 advance-spec =

@@ -1,6 +1,11 @@
 -- `begin` calls setup on idle records, and puts the first line.
-use mathlib.Core.Path.{refl}
+use mathlib.Core.Path.{refl, ap, _∙_}
+use lib.ListN.{replicate}
 use denote.Ref.{now}
+use Rattle.machine.specs.Records.{idle}
+use Rattle.machine.specs.Lent.{lent}
+use Rattle.calls.specs.Made.{outcomeOf}
+use Rattle.calls.specs.declared.Call.{Call}
 use Rattle.listing.proofs.Running.{stands-begun}
 use borrow.Author.Needs.{needs}
 use Rattle.listing.proofs.begin.Statement.{statement}
@@ -32,8 +37,9 @@ returns c =
     let c2 = c .before .before .before .before in
     let c1 = c2 .before .before .before .before .before .before in
     let a = c1 .before .before .before .before .before .before .before .args in
-    stands-begun (a .s) (now (a .xs)) (now (a .marks)) (now (a .room)) _ (c1 .make .result) _ _ _ (c1 .before .before .before .idle-records .result)
-    (c1 .before .before .before .idle-records .ensures) (c .no-turns .ensures) (c1 .make .ensures) (c2 .put-grid .ensures) refl refl refl
+    let fresh = c1 .before .before .before .idle-records .ensures in
+    let calls = c1 .make .ensures ∙ ap (λ records. outcomeOf (a .s) Call.Setup (lent records (now (a .xs)) (now (a .marks)))) fresh in
+    stands-begun (a .s) (lent (replicate 256 idle) (now (a .xs)) (now (a .marks))) (now (a .room)) _ _ _ calls (c .no-turns .ensures) refl refl (c2 .put-grid .ensures)
 
 pub begin-spec : {M : Type 1} → statement M
 begin-spec =

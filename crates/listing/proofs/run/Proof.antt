@@ -6,6 +6,7 @@ use native.Mathlib.Omega.{arith}
 use borrow.Author.Needs.{needs}
 use lib.ListN.{length}
 use denote.Ref.{now}
+use Rattle.machine.specs.Lent.{lent}
 use Rattle.listing.proofs.Opened.{tasks-few, events-few}
 use Rattle.listing.proofs.Running.{Stands, begins, advances, ends, stands-room, stands-turns}
 use Rattle.listing.proofs.run.Statement.{statement}
@@ -17,18 +18,22 @@ Inv-loop file s count room₀ xs₀ marks₀ standing₀ i₀ room xs marks stan
     × (length room ≡ length room₀)
     × (length xs ≡ length xs₀)
     × (length marks ≡ length marks₀)
-    × ((first : List ℕ) → 45 + 31 * count ≤ length first → Stands s file 0 standing₀ xs₀ marks₀ first room₀ → Stands s file i standing xs marks first room)
+    × ((first : List ℕ) → 45 + 31 * count ≤ length first → Stands s file 0 standing₀ (lent (standing₀ .records) xs₀ marks₀) first room₀
+    → Stands s file i standing (lent (standing .records) xs marks) first room)
 
 abbrev μ-loop : tie.MeasureT-loop
 μ-loop file s count room₀ xs₀ marks₀ standing₀ i₀ room xs marks standing i = count - i
 
+abbrev start : tie.At-loop Inv-loop μ-loop → tie.Start Inv-loop μ-loop
+start c = c .before .before .before .before .before .before .before .before .before .before .before .before .before .before .before
+
 -- where the code stands at the loop's head
 here : (c : tie.At-loop Inv-loop μ-loop)
-    → Stands (c .before .before .before .before .before .before .before .before .before .before .before .before .before .before .before .args .s) (now (c .before .before .before .before .before .before .before .before .before .before .before .before .before .before .before .args .file)) (c .loop .i) (c .loop .standing) (c .loop .xs) (c .loop .marks) (now (c .before .before .before .before .before .before .before .before .before .before .before .before .before .before .before .args .room)) (c .loop .room)
+    → Stands (start c .args .s) (now (start c .args .file)) (c .loop .i) (c .loop .standing) (lent (c .loop .standing .records) (c .loop .xs) (c .loop .marks)) (now (start c .args .room)) (c .loop .room)
 here c =
-    let a = c .before .before .before .before .before .before .before .before .before .before .before .before .before .before .before .args in
-    let pre = c .before .before .before .before .before .before .before .before .before .before .before .before .before .before .before .pre in
-    c .loop .inv .4 (now (a .room)) (pre .2) (begins (a .s) (now (a .file)) (now (a .xs)) (now (a .marks)) (now (a .room)) _ _ _ _ (pre .1) (c .before .before .before .before .before .before .before .begin .ensures))
+    let a = start c .args in
+    let pre = start c .pre in
+    c .loop .inv .4 (now (a .room)) (pre .2) (begins (a .s) (now (a .file)) _ (now (a .room)) _ _ _ (pre .1) (c .before .before .before .before .before .before .before .begin .ensures))
 
 begin-requires : tie.Need-begin-requires Inv-loop μ-loop
 begin-requires c κs = search needs
@@ -69,7 +74,7 @@ loop-again c =
       kept .1 .1 .1 .1 .0 ∙ at .loop .inv .1,
       kept .1 .1 .1 .1 .1 .0 ∙ at .loop .inv .2,
       kept .1 .1 .1 .1 .1 .1 .0 ∙ at .loop .inv .3,
-      λ first fits begun. advances (a .s) (now (a .file)) (at .loop .i) _ _ _ first _ _ _ _ _ (omega arith) (at .loop .inv .4 first fits begun) (rw event at (step .advance .ensures)),
+      λ first fits begun. advances (a .s) (now (a .file)) (at .loop .i) _ _ first _ _ _ _ (omega arith) (at .loop .inv .4 first fits begun) (rw event at (step .advance .ensures)),
     )
 
 holders-requires : tie.Need-holders-requires Inv-loop μ-loop
@@ -97,7 +102,7 @@ returns c =
     let at = c .before .before .before .before .before .before .before in
     let a = c .before .before .before .before .before .before .before .before .before .before .before .before .before .before .before .before .before .before .before .before .before .before .args in
     let all : at .loop .i ≡ a .count = omega arith in
-    rw (sym all) (ends (a .s) (now (a .file)) (at .loop .i) (at .loop .standing) (at .loop .xs) (at .loop .marks) (now (a .room)) (at .loop .room) _ _ _ (omega (arith, c .before .before .before .before .before .before .before .before .before .before .before .before .before .before .before .before .before .before .before .before .before .before .pre .2)) (here at) (c .before .before .before .before .holders .ensures .0) (c .before .before .put-end .ensures))
+    rw (sym all) (ends (a .s) (now (a .file)) (at .loop .i) (at .loop .standing) _ (now (a .room)) (at .loop .room) _ _ _ (omega (arith, c .before .before .before .before .before .before .before .before .before .before .before .before .before .before .before .before .before .before .before .before .before .before .pre .2)) (here at) (c .before .before .before .before .holders .ensures .0) (c .before .before .put-end .ensures))
 
 pub run-spec : {M : Type 1} → statement M
 run-spec =

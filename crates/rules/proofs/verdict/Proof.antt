@@ -2,72 +2,69 @@
 use mathlib.Core.Path.{_≡_, _∙_, sym}
 use mathlib.Core.List.{[]}
 use denote.Ref.{now}
-use Rattle.machine.specs.Refusals.{first, lentCases, rangeCases}
+use Rattle.machine.specs.Memory.{Memory}
+use Rattle.machine.specs.Refusals.{first, rangeCases, taskCases}
 use Rattle.machine.specs.declared.Verdict.{Verdict}
-use Rattle.rules.proofs.Rows.{lent-passes, verdict-parts}
 use Rattle.machine.proofs.Tests.{tests}
+use Rattle.rules.specs.Decision.{rows, seenVerdict, seenSetupVerdict}
+use Rattle.rules.proofs.Rows.{then, lent-passes, verdict-parts}
 use Rattle.rules.proofs.verdict.Statement.{statement}
 use Rattle.rules.proofs.verdict.Tie as tie
 
-lent-verdict-requires : tie.Need-lent-verdict-requires
-lent-verdict-requires c κs = search tests
+abbrev registers : tie.Start → Memory
+registers c = rows (now (c .args .xs)) (now (c .args .marks))
 
-enum-known-why : tie.Need-enum-known-why
-enum-known-why c = search tests
+abbrev lent : tie.Start → Verdict
+lent c = seenSetupVerdict (c .args .s) (c .args .seen) (registers c)
 
-enum-told : tie.Need-enum-told
-enum-told c = search tests
+abbrev range : tie.Start → Verdict
+range c = first (rangeCases (c .args .s) (c .args .seen) (now (c .args .xs)) (now (c .args .marks)) [])
+
+abbrev start : tie.After-enum-told → tie.Start
+start c = c .before .before .before .before .before
+
+-- from here on what is lent passes
+lent-accepted : (c : tie.After-enum-told) → lent (start c) ≡ Verdict.Accepted
+lent-accepted c = sym (c .before .before .lent-verdict .ensures) ∙ c .enum-told .given .1
+
+parts : (c : tie.Start) → seenVerdict (c .args .s) (c .args .kind) (c .args .task .0) (c .args .seen) (registers c)
+    ≡ then (lent c) (then (range c) (first (taskCases (c .args .s) (c .args .kind) (c .args .task .0) (c .args .seen))))
+parts c = verdict-parts (c .args .s) (c .args .kind) (c .args .task .0) (c .args .seen) (registers c)
 
 range-verdict-requires : tie.Need-range-verdict-requires
 range-verdict-requires c κs =
-    let a = c .before .before .before .before .before .args in
-    let lent : first (lentCases (a .s) (a .seen) (now (a .xs)) (now (a .marks)) []) ≡ Verdict.Accepted = sym (c .before .before .lent-verdict .ensures) ∙ c .enum-told .given .1 in
-    let pass = lent-passes (a .s) (a .seen) (now (a .xs)) (now (a .marks)) lent in
-    (pass .limits, pass .rows)
-
-enum-known-why-2 : tie.Need-enum-known-why-2
-enum-known-why-2 c = search tests
-
-enum-told-2 : tie.Need-enum-told-2
-enum-told-2 c = search tests
-
-task-verdict-requires : tie.Need-task-verdict-requires
-task-verdict-requires c κs = search tests
+    let pass = lent-passes (start c .args .s) (start c .args .seen) (registers (start c)) (lent-accepted c) in
+    (pass .limits, pass .none-is-short)
 
 returns : tie.Need-returns
 returns c =
-    let a = c .before .before .before .before .before .before .args in
-    let parts = verdict-parts (a .s) (a .kind) (a .task .0) (a .seen) (now (a .xs)) (now (a .marks)) in
-    let lent : first (lentCases (a .s) (a .seen) (now (a .xs)) (now (a .marks)) []) ≡ Verdict.Refused _ = sym (c .before .before .before .lent-verdict .ensures) ∙ c .before .why .given .1 in
-    rw (parts, lent)
+    let a = c .before .before .before .before .before .before in
+    let refused : lent a ≡ Verdict.Refused _ = sym (c .before .before .before .lent-verdict .ensures) ∙ c .before .why .given .1 in
+    rw (parts a, refused)
 
 returns-2 : tie.Need-returns-2
 returns-2 c =
-    let a = c .before .before .before .before .before .before .before .before .before .args in
-    let parts = verdict-parts (a .s) (a .kind) (a .task .0) (a .seen) (now (a .xs)) (now (a .marks)) in
-    let lent : first (lentCases (a .s) (a .seen) (now (a .xs)) (now (a .marks)) []) ≡ Verdict.Accepted = sym (c .before .before .before .before .before .before .lent-verdict .ensures) ∙ c .before .before .before .before .enum-told .given .1 in
-    let range : first (rangeCases (a .s) (a .seen) (now (a .xs)) (now (a .marks)) []) ≡ Verdict.Refused _ = sym (c .before .before .before .range-verdict .ensures) ∙ c .before .why2 .given .1 in
-    rw (parts, lent, range)
+    let told = c .before .before .before .before in
+    let refused : range (start told) ≡ Verdict.Refused _ = sym (c .before .before .before .range-verdict .ensures) ∙ c .before .why2 .given .1 in
+    rw (parts (start told), lent-accepted told, refused)
 
 returns-3 : tie.Need-returns-3
 returns-3 c =
-    let a = c .before .before .before .before .before .before .before .before .before .args in
-    let parts = verdict-parts (a .s) (a .kind) (a .task .0) (a .seen) (now (a .xs)) (now (a .marks)) in
-    let lent : first (lentCases (a .s) (a .seen) (now (a .xs)) (now (a .marks)) []) ≡ Verdict.Accepted = sym (c .before .before .before .before .before .before .lent-verdict .ensures) ∙ c .before .before .before .before .enum-told .given .1 in
-    let range : first (rangeCases (a .s) (a .seen) (now (a .xs)) (now (a .marks)) []) ≡ Verdict.Accepted = sym (c .before .before .before .range-verdict .ensures) ∙ c .before .enum-told2 .given .1 in
-    rw (parts, lent, range) (c .task-verdict .ensures)
+    let told = c .before .before .before .before in
+    let passed : range (start told) ≡ Verdict.Accepted = sym (c .before .before .before .range-verdict .ensures) ∙ c .before .enum-told2 .given .1 in
+    rw (parts (start told), lent-accepted told, passed) (c .task-verdict .ensures)
 
 pub verdict-spec : {M : Type 1} → statement M
 verdict-spec =
     tie.close
     (tie.spec
-    lent-verdict-requires
-    enum-known-why
-    enum-told
+    (λ c κs. search tests)
+    (λ c. search tests)
+    (λ c. search tests)
     range-verdict-requires
-    enum-known-why-2
-    enum-told-2
-    task-verdict-requires
+    (λ c. search tests)
+    (λ c. search tests)
+    (λ c κs. search tests)
     returns
     returns-2
     returns-3)

@@ -5,9 +5,9 @@ use native.Mathlib.Omega.{arith}
 use lib.{ListN.{length, take, getD}, Seq.take-all}
 use borrow.Author.Tests.{ltb-false}
 use Rattle.file.specs.File.{codeIn, numberBad, eventsBytes}
+use Rattle.counting.proofs.Some.{none-below}
 use Rattle.machine.proofs.Tests.{tests}
 use Rattle.text.{specs.Put.put, proofs.Putting.put-nothing}
-use Rattle.counting.proofs.Some.{none-below}
 use Rattle.schedule.proofs.{Bytes.{length-behind, put-more}, put_events.Statement.statement}
 use Rattle.schedule.proofs.put_events.Tie as tie
 
