@@ -1,1 +1,2 @@
+-- What `listing::list` leaves, for the one function that calls it.
 pub mod Whole

@@ -7,7 +7,8 @@ use Rattle.places.proofs.Counts.{product-fits, product-and-sum-fit, blo
 use Rattle.places.proofs.mark_index.Statement.{statement}
 use Rattle.places.proofs.mark_index.Tie as tie
 
-small : (c : tie.After-width) → (c .before .args .block ≤ 256) × (c .before .args .place ≤ 256) × (c .width .result ≤ 256)
+small : (c : tie.After-width) → let a = c .before .args in
+    (a .block ≤ 256) × (a .place ≤ 256) × (c .width .result ≤ 256)
 small c =
     let limit = limits (c .before .args .s) (c .before .pre .0) in
     let few = blocks-most _ limit in

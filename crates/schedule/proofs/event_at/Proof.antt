@@ -1,3 +1,4 @@
+-- What is known once the header is accepted and the position tested, and from it the reading at each return.
 use mathlib.Core.{Path.{_≡_, ap, _∙_}, Bool.{true, false}}
 use native.Mathlib.Omega.{arith}
 use lib.Dec.{leb}
@@ -63,7 +64,8 @@ returns-4 : tie.Need-returns-4
 returns-4 c =
     let second = c .before .before in
     let inside = second .before .before in
-    rw (read (counted inside), within inside, le-ltb _ _ (second .if2 .left), c .kind .ensures, c .before .word2 .ensures)
+    let known = le-ltb _ _ (second .if2 .left) in
+    rw (read (counted inside), within inside, known, c .kind .ensures, c .before .word2 .ensures)
 
 pub event-at-spec : {M : Type 1} → statement M
 event-at-spec =

@@ -1,3 +1,4 @@
+-- The kind of a code, each return by the tests before it.
 use Rattle.machine.proofs.Tests.{tests}
 use Rattle.schedule.proofs.kind.Statement.{statement}
 use Rattle.schedule.proofs.kind.Tie as tie

@@ -1,3 +1,4 @@
+-- Whether the file opens with the format's three letters, each return by the tests before it.
 use Rattle.machine.proofs.Tests.{tests}
 use Rattle.schedule.proofs.letters.Statement.{statement}
 use Rattle.schedule.proofs.letters.Tie as tie

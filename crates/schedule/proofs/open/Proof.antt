@@ -1,3 +1,4 @@
+-- What is known once the header is accepted, and from it the opening at each return.
 use mathlib.Core.{Path.{_≡_, sym, ap, _∙_}, List.List}
 use Prim.Native.Nat.{ℕ}
 use native.Mathlib.Omega.{arith}

@@ -1,3 +1,4 @@
+-- `put_event` puts the bytes of an event: the code, and behind it the task as a word.
 use mathlib.Core.Path.{_∙_}
 use native.Mathlib.Omega.{arith}
 use lib.ListN.{length-set}

@@ -1,3 +1,4 @@
+-- `put_header` puts the header: six bytes, a word, a byte and a word (`header-put`). The room keeps its length.
 use mathlib.Core.Path.{_≡_, _∙_}
 use native.Mathlib.Omega.{arith}
 use lib.ListN.{length, length-set}

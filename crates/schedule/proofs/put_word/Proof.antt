@@ -1,3 +1,4 @@
+-- `put_word` puts the two bytes of a word, stored one by one (`stores-put`).
 use native.Mathlib.{Omega.arith, Numerals.add-one}
 use lib.ListN.{length-set}
 use Rattle.file.specs.File.{wordBytes}

@@ -105,7 +105,8 @@ module _ {M : Type 1} (𝓤 : URA M) (H : Heap 𝓤) (A : Atoms 𝓤) (W : Given
           enter ! C Λ code.function (file-value file ∷ vint w64 at ∷ []) _ $
           alloc1 ! (λ l₀. alloc1 ! (λ l₁. alloc1 ! (λ l₂. alloc1 ! (λ l₃.
           alloc1 ! (λ l₄. alloc1 ! (λ l₅. alloc1 ! (λ l₆. alloc0 ! $
-          params1 ! $ pass1 ! (init ! 10 refl (tt, (tt, (record { fits = room .0 }, tt)))) $
+          params1 ! $
+          pass1 ! (init ! 10 refl (tt, (tt, (record { fits = room .0 }, tt)))) $
           pass1 ! (init ! 8 refl (tt, record { fits = fits })) $ pass0 ! $
           -- [_6; its end; .. _3; .. room for _0; its end; the token; what file and at own]: the reader, and its address
           assigns ! (agg ! (and-then ! (load ! (from ! (stop !)) (look ! 10 refl))
@@ -114,8 +115,7 @@ module _ {M : Type 1} (𝓤 : URA M) (H : Heap 𝓤) (A : Atoms 𝓤) (W : Given
           assigns ! (addr ! (from ! (stop !))) (from ! (stop !)) (init ! 2 refl (tt, tt)) $
           move ! (15 ∷ []) $ fsplit ! $
           use1 W (‵ Own ⊛ ‵ Own) (shr-slice-copy 𝓤 H A W (named 0) κ u8 .twice file (file-value file ∷ [])) $ split ! $
-          move ! (2 ∷ []) $ drop ! $ move ! (16 ∷ []) $ split ! $ move ! (1 ∷ []) $ drop ! $
-          move ! (1 ∷ []) $
+          move ! (2 ∷ []) $ drop ! $ move ! (16 ∷ []) $ split ! $ move ! (1 ∷ []) $ drop ! $ move ! (1 ∷ []) $
           use1 W (‵ (readers (named 1) κ .own reader (Reader′.lowered reader ∷ [])))
           (reader-made 𝓤 H A W (named 0) (named 1) κ file at fits) $
           -- [what the reader owns; the token; what file owns; _6; its end; .. _3; ..]: the local is lent
@@ -128,8 +128,7 @@ module _ {M : Type 1} (𝓤 : URA M) (H : Heap 𝓤) (A : Atoms 𝓤) (W : Given
           (and-then ! (load ! (from ! (stop !)) (look ! 5 refl)) (no-more !)) (λ u.
           use2 W (later (given (Back 𝓤 H A mem run W κ q reader l₃ u)
           (‵ (cell 𝓤 H A mem run W κ q reader l₃ (moved-on reader)) ⊛ ‵ (flft κ q))))
-          (next-back 𝓤 H A mem run W κ q reader l₃ loan u) $ await ! tt $ learn ! (λ back.
-          split ! $
+          (next-back 𝓤 H A mem run W κ q reader l₃ loan u) $ await ! tt $ learn ! (λ back. split ! $
           -- [_3; the token; what file owns; _6; its end; _5; its end; _4; its end; _3's end; _2; ..]: the answer, the
           -- position, the two together
           land ! (from ! (stop !))
@@ -145,7 +144,8 @@ module _ {M : Type 1} (𝓤 : URA M) (H : Heap 𝓤) (A : Atoms 𝓤) (W : Given
           forget ! 0 refl $ forget ! 3 refl $ forget ! 5 refl $ forget ! 7 refl $ forget ! 10 refl $ forget ! 12 refl $
           forget ! 14 refl $
           keep ! (14 ∷ 15 ∷ 12 ∷ 13 ∷ 10 ∷ 11 ∷ 0 ∷ 9 ∷ 7 ∷ 8 ∷ 5 ∷ 6 ∷ 3 ∷ 4 ∷ 1 ∷ 2 ∷ []) $
-          free1 ! $ free1 ! $ free1 ! $ free1 ! $ free1 ! $ free1 ! $ free1 ! $ free0 ! $ by ! (exits (found-is l₃ u back))))))))))))
+          free1 ! $ free1 ! $ free1 ! $ free1 ! $ free1 ! $ free1 ! $ free1 ! $ free0 ! $
+          by ! (exits (found-is l₃ u back))))))))))))
 
   walks : (C : Calls 𝓤 H) (Λ : Loops 𝓤 H) → FmC 𝓤 H (W .laws) C → Triple 𝓤 (C #next) Asks
       → Walks 𝓤 H A read.ended stays (WpFn 𝓤 H C Λ code.function) clauses

@@ -1,3 +1,4 @@
+-- The settings are those of the header's bytes, by what `word` ensures.
 use Rattle.machine.proofs.Tests.{tests}
 use Rattle.schedule.proofs.settings.Statement.{statement}
 use Rattle.schedule.proofs.settings.Tie as tie

@@ -1,3 +1,4 @@
+-- `word` reads two bytes, the low one first; both are below 256, so the sum fits.
 use Prim.Native.Nat.{ℕ, _+_, _<_}
 use native.Mathlib.Omega.{arith}
 use lib.ListN.{getD}

@@ -1,3 +1,4 @@
+-- The bytes are counted up to 256, and the first of the run stays a byte.
 use mathlib.Core.Logic.{⊎-elim}
 use native.Mathlib.Omega.{arith}
 use Prim.Native.Nat.{_-_, _≤_}

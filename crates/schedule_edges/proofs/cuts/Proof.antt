@@ -1,3 +1,4 @@
+-- The cuts are counted up to one above the file's length.
 use mathlib.Core.Path.{_≡_, sym}
 use Prim.Native.Nat.{_+_, _-_, _≤_}
 use lib.{ListN.length, Seq.length-take-le}

@@ -1,3 +1,4 @@
+-- The places of the file are counted up to 20.
 use Prim.Native.Nat.{_-_, _≤_}
 use borrow.Author.Needs.{needs}
 use Rattle.schedule_edges.proofs.small.Statement.{statement}

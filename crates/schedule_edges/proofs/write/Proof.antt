@@ -1,3 +1,4 @@
+-- The bytes of the room are counted up to its length.
 use Prim.Native.Nat.{_-_, _≤_}
 use lib.ListN.{length}
 use borrow.Author.Needs.{needs}
