@@ -1,4 +1,5 @@
 -- How each function takes its parameters: what its own walk and its callers use.
+use denote.Array.{Array}
 use denote.Builtin.{u8, u32}
 use denote.Exit.{yes}
 use Rattle.machine.proofs.Answer as A₁
@@ -92,16 +93,20 @@ setup-fn = record {
 abbrev pub made-data : Data G.the-row
 made-data = struct G.the-type G′.the-laws G′.the-plain G′.the-copy
 
+-- the records that are handed over
+abbrev pub records-data : Data (Array R 256)
+records-data = array record-data 256
+
 abbrev pub step-of-fn : Function step-of.ended
 step-of-fn = record {
-  params = (value settings-data yes, (value (array record-data 256) yes, (changed u32 0 tt, (changed u8 1 tt, (value event-data yes, tt)))));
+  params = (value settings-data yes, (value records-data yes, (changed u32 0 tt, (changed u8 1 tt, (value event-data yes, tt)))));
   result = λ _. made-data;
   clauses = step-of.clauses;
 }
 
 abbrev pub setup-of-fn : Function setup-of.ended
 setup-of-fn = record {
-  params = (value settings-data yes, (value (array record-data 256) yes, (changed u32 0 tt, (changed u8 1 tt, tt))));
+  params = (value settings-data yes, (value records-data yes, (changed u32 0 tt, (changed u8 1 tt, tt))));
   result = λ _. made-data;
   clauses = setup-of.clauses;
 }

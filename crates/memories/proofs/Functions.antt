@@ -2,11 +2,11 @@
 use mir.Syntax.{w8}
 use denote.Builtin.{u8, u32}
 use denote.Exit.{yes}
-use Rattle.walks.proofs.Data.{number, array}
+use Rattle.walks.proofs.Data.{number}
 use Rattle.walks.proofs.Params.{value, changed}
 use Rattle.walks.proofs.Walk.{Function}
-use Rattle.rows.proofs.Functions.{record-data, settings-data, task-data}
-use Rattle.calls.proofs.Functions.{made-data}
+use Rattle.rows.proofs.Functions.{settings-data, task-data}
+use Rattle.calls.proofs.Functions.{made-data, records-data}
 use Rattle.memories.proofs.setup_on as setup-on
 use Rattle.memories.proofs.ask_on as ask-on
 use Rattle.memories.proofs.turn_on as turn-on
@@ -14,14 +14,14 @@ use Rattle.memories.proofs.release_on as release-on
 
 abbrev pub setup-on-fn : Function setup-on.ended
 setup-on-fn = record {
-  params = (value settings-data yes, (value (array record-data 256) yes, (value (number w8) yes, (changed u32 0 tt, (changed u8 1 tt, tt)))));
+  params = (value settings-data yes, (value records-data yes, (value (number w8) yes, (changed u32 0 tt, (changed u8 1 tt, tt)))));
   result = λ _. made-data;
   clauses = setup-on.clauses;
 }
 
 abbrev pub ask-on-fn : Function ask-on.ended
 ask-on-fn = record {
-  params = (value settings-data yes, (value (array record-data 256) yes, (value (number w8) yes, (changed u32 0 tt, (changed u8 1 tt, (value task-data yes, tt))))));
+  params = (value settings-data yes, (value records-data yes, (value (number w8) yes, (changed u32 0 tt, (changed u8 1 tt, (value task-data yes, tt))))));
   result = λ _. made-data;
   clauses = ask-on.clauses;
 }

@@ -9,9 +9,10 @@ use mir.Syntax.{w8}
 use denote.Slice.{Room}
 use Rattle.machine.specs.Calls.{Outcome}
 use Rattle.machine.specs.declared.Record.{Record}
-use Rattle.walks.proofs.Data.{Real, number, array}
-use Rattle.rows.proofs.Functions.{R, record-data}
+use Rattle.walks.proofs.Data.{Real, number}
+use Rattle.rows.proofs.Functions.{R}
 use Rattle.calls.specs.declared.Made.{Made}
+use Rattle.calls.proofs.Functions.{records-data}
 
 module _ (records : List Record) (n : ℕ) where
   abbrev pub front : List Record
@@ -27,7 +28,7 @@ module _ (records : List Record) (n : ℕ) where
   abbrev pub given-back : Outcome → Made
   given-back outcome = record { records = outcome .memory .records ++ rest; answer = outcome .answer }
 
-  module _ (records-are : Real (array record-data 256) records) (n-is : Real (number w8) n) where
+  module _ (records-are : Real records-data records) (n-is : Real (number w8) n) where
     few : n < 2 ^ 8
     few = n-is .1
 

@@ -50,5 +50,6 @@ module _ {s : Settings} {kind : Kind} {p : ℕ} {seen : View} {m : Memory} (ok :
       → new ≡ record { state = next s kind p (seen .own .state) v } → T (recordInRange s new)
   next-in-range v left new read stands =
       let value = ap (λ (t : Touched). t .value) read in
-      let good = fitting.next-in-range s (limits s (ok .limits)) kind p (seen .own .state) m (ok .moment) (ok .own-in-range) in
+      let good =
+      fitting.next-in-range s (limits s (ok .limits)) kind p (seen .own .state) m (ok .moment) (ok .own-in-range) in
       rw (stands, value, is) good

@@ -1,15 +1,17 @@
--- The definition's decision: a refused call leaves all as it was; an accepted one is put together from its one access, its record and its answer.
+-- The definition's decision: a refused call leaves all as it was; an accepted one is put together from its one access,
+-- its record and its answer.
 use mathlib.Core.Path.{_≡_, ap}
 use Prim.Native.Nat.{ℕ}
 use Rattle.machine.specs.Memory.{Memory}
 use Rattle.machine.specs.Turn.{access, next}
 use Rattle.machine.specs.Calls.{answerOf}
-use Rattle.machine.specs.declared.{Settings.Settings, Record.Record, View.View, Kind.Kind, Access.Access, Refusal.Refusal, Verdict.Verdict, Answer.Answer}
-use Rattle.rules.specs.Decision.{seenVerdict, Touched, touched, touching, Decision, decision}
+use Rattle.machine.specs.declared.{Settings.Settings, Record.Record, View.View, Kind.Kind, Access.Access}
+use Rattle.machine.specs.declared.{Refusal.Refusal, Verdict.Verdict, Answer.Answer}
+use Rattle.rules.specs.Decision.{seenVerdict, Touched, touched, touching, decided, decision}
 
 module _ (s : Settings) (kind : Kind) (p : ℕ) (seen : View) (m : Memory) where
   pub refused-decided : (why : Refusal) → seenVerdict s kind p seen m ≡ Verdict.Refused why
-      → _≡_ {A = Decision} (record { answer = Answer.Refused why; own = seen .own; memory = m }) (decision s kind p seen m)
+      → decided (record { answer = Answer.Refused why; own = seen .own }) m ≡ decision s kind p seen m
   refused-decided why refused = rw refused
 
   pub accepted-decided : (touch : Access) (left : Memory) (v : ℕ) (own : Record) (answer : Answer)
@@ -18,7 +20,7 @@ module _ (s : Settings) (kind : Kind) (p : ℕ) (seen : View) (m : Memory) where
       → touched v left ≡ touching s touch m
       → own ≡ record { state = next s kind p (seen .own .state) v }
       → answer ≡ answerOf s kind (seen .own .state) (own .state)
-      → _≡_ {A = Decision} (record { answer = answer; own = own; memory = left }) (decision s kind p seen m)
+      → decided (record { answer = answer; own = own }) left ≡ decision s kind p seen m
   accepted-decided touch left v own answer accepted is touched next said =
       let read = ap (λ (t : Touched). t .value) touched in
       let stored = ap (λ (t : Touched). t .memory) touched in

@@ -1,5 +1,5 @@
--- The contracts of `setup` and `decide` determine what is returned, whole and part by part, and the registers afterwards, row by row: two
--- outcomes that they admit are equal.
+-- The contracts of `setup` and `decide` determine what is returned, whole and part by part, and the registers
+-- afterwards, row by row: two outcomes that they admit are equal.
 use mathlib.Core.Path.{_≡_, sym, ap, _∙_}
 use Rattle.machine.specs.Memory.{Memory}
 use Rattle.machine.specs.declared.Settings.{Settings}
@@ -28,7 +28,8 @@ prepared-determined s seen before one other m m′ p q =
     )
 
 -- `decide`: the answer and the task's record, and the registers
-pub decided-determined : (s : Settings) (seen : View) (event : Event) (before : Memory) (one other : Decided) (m m′ : Memory)
+pub decided-determined : (s : Settings) (seen : View) (event : Event) (before : Memory)
+    (one other : Decided) (m m′ : Memory)
     → decided one m ≡ decision s (event .kind) (event .task .0) seen before
     → decided other m′ ≡ decision s (event .kind) (event .task .0) seen before
     → (one ≡ other) × (one .answer ≡ other .answer) × (one .own ≡ other .own)

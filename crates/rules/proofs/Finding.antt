@@ -1,4 +1,5 @@
--- The first value of a row that is above a limit, as a search finds it: everything passed is at most the limit, and what it stopped at is above.
+-- The first value of a row that is above a limit, as a search finds it: everything passed is at most the limit, and
+-- what it stopped at is above.
 use mathlib.Core.Path.{_≡_, sym}
 use mathlib.Core.List.{List}
 use Prim.Native.Nat.{ℕ, _+_, _*_, _≤_, _<_}

@@ -29,9 +29,11 @@ pub record Long (s : Settings) (records : ℕ) (m : Memory) : Type 0 where
   pub xs-long : blocks s ≤ length (m .xs)
   pub marks-long : marksNeeded s ≤ length (m .marks)
 
-pub none-short : (s : Settings) (records : ℕ) (m : Memory) → rowShort s records (m .xs) (m .marks) ≡ false → Long s records m
+pub none-short : (s : Settings) (records : ℕ) (m : Memory) → rowShort s records (m .xs) (m .marks) ≡ false
+    → Long s records m
 none-short s records m e =
-    let each = none-of-three (ltb records (s .n)) (ltb (length (m .xs)) (blocks s)) (ltb (length (m .marks)) (marksNeeded s)) e in
+    let each =
+    none-of-three (ltb records (s .n)) (ltb (length (m .xs)) (blocks s)) (ltb (length (m .marks)) (marksNeeded s)) e in
     record {
       records-long = ltb-false records (s .n) (each .0);
       xs-long = ltb-false (length (m .xs)) (blocks s) (each .1);
@@ -39,7 +41,8 @@ none-short s records m e =
     }
 
 lent-of : (ok short : Bool) (why other : Refusal)
-    → cond (not ok) (Verdict.Refused why) (cond short (Verdict.Refused other) Verdict.Accepted) ≡ Verdict.Accepted → T ok × (short ≡ false)
+    → cond (not ok) (Verdict.Refused why) (cond short (Verdict.Refused other) Verdict.Accepted) ≡ Verdict.Accepted
+    → T ok × (short ≡ false)
 lent-of false short why other e = absurd (let z : _≡_ {A = ℕ} 0 1 = cc in omega arith)
 lent-of true true why other e = absurd (let z : _≡_ {A = ℕ} 0 1 = cc in omega arith)
 lent-of true false why other e = (tt, refl)
@@ -52,7 +55,8 @@ pub record Lent (s : Settings) (seen : View) (m : Memory) : Type 0 where
 
 pub lent-passes : (s : Settings) (seen : View) (m : Memory) → seenSetupVerdict s seen m ≡ Verdict.Accepted → Lent s seen m
 lent-passes s seen m e =
-    let (limits, short) = lent-of (permitted s) (rowShort s (seen .length) (m .xs) (m .marks)) Refusal.Limits Refusal.ShortRow e in
+    let (limits, short) =
+    lent-of (permitted s) (rowShort s (seen .length) (m .xs) (m .marks)) Refusal.Limits Refusal.ShortRow e in
     record { limits = limits; none-is-short = short; long = none-short s (seen .length) m short }
 
 -- ---- the verdict by its three parts
@@ -63,7 +67,8 @@ then Verdict.Accepted later = later
 then (Verdict.Refused why) later = Verdict.Refused why
 
 two-then : (a b : Bool) (x y : Refusal) (later : Verdict)
-    → cond a (Verdict.Refused x) (cond b (Verdict.Refused y) later) ≡ then (cond a (Verdict.Refused x) (cond b (Verdict.Refused y) Verdict.Accepted)) later
+    → cond a (Verdict.Refused x) (cond b (Verdict.Refused y) later)
+    ≡ then (cond a (Verdict.Refused x) (cond b (Verdict.Refused y) Verdict.Accepted)) later
 two-then true b x y later = refl
 two-then false true x y later = refl
 two-then false false x y later = refl
@@ -76,10 +81,11 @@ three-then false b c x y z later = two-then b c y z later
 
 pub verdict-parts : (s : Settings) (kind : Kind) (p : ℕ) (seen : View) (m : Memory)
     → seenVerdict s kind p seen m
-    ≡ then (seenSetupVerdict s seen m) (then (first (rangeCases s seen (m .xs) (m .marks) [])) (first (taskCases s kind p seen)))
+    ≡ then (seenSetupVerdict s seen m)
+    (then (first (rangeCases s seen (m .xs) (m .marks) [])) (first (taskCases s kind p seen)))
 verdict-parts s kind p seen m =
     two-then (outsideLimits s) (rowShort s (seen .length) (m .xs) (m .marks)) Refusal.Limits Refusal.ShortRow
     (first (rangeCases s seen (m .xs) (m .marks) (taskCases s kind p seen)))
     ∙ ap (then (seenSetupVerdict s seen m))
-    (three-then (ltb (seen .bad) (s .n)) (ltb (badX s (m .xs)) (blocks s)) (ltb (badMark s (m .marks)) (marksNeeded s)) _ _ _
-    (first (taskCases s kind p seen)))
+    (three-then (ltb (seen .bad) (s .n)) (ltb (badX s (m .xs)) (blocks s)) (ltb (badMark s (m .marks)) (marksNeeded s))
+    _ _ _ (first (taskCases s kind p seen)))

@@ -1,5 +1,5 @@
--- What a call decides from what it sees of the records and from the rows of registers: the definitions of the machine, without the row of
--- records. An outcome holds one memory; the rows are put together in `rows` and nowhere else.
+-- What a call decides from what it sees of the records and from the rows of registers: the definitions of the machine,
+-- without the row of records. An outcome holds one memory; the rows are put together in `rows` and nowhere else.
 use mathlib.Core.Path.{_≡_}
 use mathlib.Core.Bool.{false}
 use mathlib.Core.List.{List, []}

@@ -35,14 +35,8 @@ here c =
     let pre = start c .pre in
     c .loop .inv .4 (now (a .room)) (pre .2) (begins (a .s) (now (a .file)) _ (now (a .room)) _ _ _ (pre .1) (c .before .before .before .before .before .before .before .begin .ensures))
 
-begin-requires : tie.Need-begin-requires Inv-loop μ-loop
-begin-requires c κs = search needs
-
 loop-holds : tie.Need-loop-holds Inv-loop μ-loop
 loop-holds c = (search needs, refl, refl, refl, λ first fits begun. begun)
-
-cast-event-of : tie.Need-cast-event-of Inv-loop μ-loop
-cast-event-of c = search needs
 
 event-of-requires : tie.Need-event-of-requires Inv-loop μ-loop
 event-of-requires c κs = (c .before .before .before .before .before .before .before .before .before .before .before .before .before .before .before .before .pre .0, search needs)
@@ -59,9 +53,6 @@ advance-requires c κs =
 
 add-i : tie.Need-add-i Inv-loop μ-loop
 add-i c = omega (arith, c .before .before .before .before .before .before .before .before .before .before .before .before .before .before .before .before .before .before .before .before .before .before .before .before .before .before .before .fits .count)
-
-loop-less : tie.Need-loop-less Inv-loop μ-loop
-loop-less c = search needs
 
 loop-again : tie.Need-loop-again Inv-loop μ-loop
 loop-again c =
@@ -88,15 +79,6 @@ put-end-requires c κs =
     let stands = here (c .before .before .before .before) in
     stands-room stands 22 (search needs)
 
-same-length : tie.Need-same-length Inv-loop μ-loop
-same-length c = search needs
-
-same-length-2 : tie.Need-same-length-2 Inv-loop μ-loop
-same-length-2 c = search needs
-
-same-length-3 : tie.Need-same-length-3 Inv-loop μ-loop
-same-length-3 c = search needs
-
 returns : tie.Need-returns Inv-loop μ-loop
 returns c =
     let at = c .before .before .before .before .before .before .before in
@@ -110,17 +92,17 @@ run-spec =
     (tie.spec
     Inv-loop
     μ-loop
-    begin-requires
+    (λ c κs. search needs)
     loop-holds
-    cast-event-of
+    (λ c. search needs)
     event-of-requires
     advance-requires
     add-i
-    loop-less
+    (λ c. search needs)
     loop-again
     holders-requires
     put-end-requires
-    same-length
-    same-length-2
-    same-length-3
+    (λ c. search needs)
+    (λ c. search needs)
+    (λ c. search needs)
     returns)

@@ -12,45 +12,18 @@ Inv-loop input at records₀ at₀ i₀ records at' i = (i ≤ 256) × (length r
 abbrev μ-loop : tie.MeasureT-loop
 μ-loop input at records₀ at₀ i₀ records at' i = 256 - i
 
-loop-holds : tie.Need-loop-holds Inv-loop μ-loop
-loop-holds c = search needs
-
-record-at-requires : tie.Need-record-at-requires Inv-loop μ-loop
-record-at-requires c κs = search needs
-
-mul-records : tie.Need-mul-records Inv-loop μ-loop
-mul-records c = search needs
-
-array-set-from-records : tie.Need-array-set-from-records Inv-loop μ-loop
-array-set-from-records c = search needs
-
-past-requires : tie.Need-past-requires Inv-loop μ-loop
-past-requires c κs = search needs
-
-add-i : tie.Need-add-i Inv-loop μ-loop
-add-i c = search needs
-
-loop-less : tie.Need-loop-less Inv-loop μ-loop
-loop-less c = search needs
-
-loop-again : tie.Need-loop-again Inv-loop μ-loop
-loop-again c = search needs
-
-returns : tie.Need-returns Inv-loop μ-loop
-returns c = search needs
-
 pub records-at-spec : {M : Type 1} → statement M
 records-at-spec =
     tie.close
     (tie.spec
     Inv-loop
     μ-loop
-    loop-holds
-    record-at-requires
-    mul-records
-    array-set-from-records
-    past-requires
-    add-i
-    loop-less
-    loop-again
-    returns)
+    (λ c. search needs)
+    (λ c κs. search needs)
+    (λ c. search needs)
+    (λ c. search needs)
+    (λ c κs. search needs)
+    (λ c. search needs)
+    (λ c. search needs)
+    (λ c. search needs)
+    (λ c. search needs))

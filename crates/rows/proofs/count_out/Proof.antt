@@ -4,12 +4,6 @@ use Rattle.machine.proofs.Tests.{tests}
 use Rattle.rows.proofs.count_out.Statement.{statement}
 use Rattle.rows.proofs.count_out.Tie as tie
 
-is-out-requires : tie.Need-is-out-requires
-is-out-requires c κs = search tests
-
-add-result : tie.Need-add-result
-add-result c = search tests
-
 returns : tie.Need-returns
 returns c = rw (sym (c .before .is-out .ensures) ∙ c .if1 .taken) (add-one _)
 
@@ -17,4 +11,5 @@ returns-2 : tie.Need-returns-2
 returns-2 c = rw (sym (c .before .is-out .ensures) ∙ c .if1 .left)
 
 pub count-out-spec : {M : Type 1} → statement M
-count-out-spec = tie.close (tie.spec is-out-requires add-result returns returns-2)
+count-out-spec =
+    tie.close (tie.spec (λ c κs. search tests) (λ c. search tests) returns returns-2)

@@ -8,12 +8,6 @@ use Rattle.rows.proofs.first_bad.Tie as tie
 returns : tie.Need-returns
 returns c = rw (lt-ltb _ _ (c .if1 .taken))
 
-in-range-requires : tie.Need-in-range-requires
-in-range-requires c κs = search tests
-
-add-result : tie.Need-add-result
-add-result c = search tests
-
 returns-2 : tie.Need-returns-2
 returns-2 c = rw (le-ltb _ _ (c .before .before .if1 .left), sym (c .before .in-range .ensures) ∙ c .if2 .taken) (add-one _)
 
@@ -21,4 +15,5 @@ returns-3 : tie.Need-returns-3
 returns-3 c = rw (le-ltb _ _ (c .before .before .if1 .left), sym (c .before .in-range .ensures) ∙ c .if2 .left)
 
 pub first-bad-spec : {M : Type 1} → statement M
-first-bad-spec = tie.close (tie.spec returns in-range-requires add-result returns-2 returns-3)
+first-bad-spec =
+    tie.close (tie.spec returns (λ c κs. search tests) (λ c. search tests) returns-2 returns-3)

@@ -15,12 +15,6 @@ Inv-loop xs blocks most i₀ i = (i ≤ blocks) × Low xs most i
 abbrev μ-loop : tie.MeasureT-loop
 μ-loop xs blocks most i₀ i = blocks - i
 
-blocks-requires : tie.Need-blocks-requires Inv-loop μ-loop
-blocks-requires c κs = search needs
-
-cast-most : tie.Need-cast-most Inv-loop μ-loop
-cast-most c = search needs
-
 loop-holds : tie.Need-loop-holds Inv-loop μ-loop
 loop-holds c = (search needs, λ j l. omega arith)
 
@@ -35,12 +29,6 @@ returns c =
     let a = c .before .before .before .before .before .before .before .args in
     let at = c .before .before .before .loop in
     stops-at-first (now (a .xs)) (a .s .n) (blocks (a .s)) (at .i) (omega arith) (at .inv .1) (c .if1 .taken)
-
-add-i : tie.Need-add-i Inv-loop μ-loop
-add-i c = search needs
-
-loop-less : tie.Need-loop-less Inv-loop μ-loop
-loop-less c = search needs
 
 loop-again : tie.Need-loop-again Inv-loop μ-loop
 loop-again c =
@@ -60,13 +48,13 @@ bad-x-spec =
     (tie.spec
     Inv-loop
     μ-loop
-    blocks-requires
-    cast-most
+    (λ c κs. search needs)
+    (λ c. search needs)
     loop-holds
     mul-if1
     shared-slice-read-if1
     returns
-    add-i
-    loop-less
+    (λ c. search needs)
+    (λ c. search needs)
     loop-again
     returns-2)

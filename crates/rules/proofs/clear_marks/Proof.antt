@@ -16,26 +16,11 @@ Inv-loop marks₀ n i₀ marks i = (i ≤ n) × (marks ≡ fill i 0 marks₀) ×
 abbrev μ-loop : tie.MeasureT-loop
 μ-loop marks₀ n i₀ marks i = n - i
 
-loop-holds : tie.Need-loop-holds Inv-loop μ-loop
-loop-holds c = search tests
-
-slice-write-marks : tie.Need-slice-write-marks Inv-loop μ-loop
-slice-write-marks c = search tests
-
-add-i : tie.Need-add-i Inv-loop μ-loop
-add-i c = search tests
-
-loop-less : tie.Need-loop-less Inv-loop μ-loop
-loop-less c = search tests
-
 loop-again : tie.Need-loop-again Inv-loop μ-loop
 loop-again c =
     let row = now (c .before .before .args .marks) in
     let at = c .before .loop in
     (search tests, rw (at .inv .1) (fill-more (at .i) 0 row (omega arith)), simp length-set (at .inv .2))
-
-same-length : tie.Need-same-length Inv-loop μ-loop
-same-length c = search tests
 
 returns : tie.Need-returns Inv-loop μ-loop
 returns c =
@@ -50,10 +35,10 @@ clear-marks-spec =
     (tie.spec
     Inv-loop
     μ-loop
-    loop-holds
-    slice-write-marks
-    add-i
-    loop-less
+    (λ c. search tests)
+    (λ c. search tests)
+    (λ c. search tests)
+    (λ c. search tests)
     loop-again
-    same-length
+    (λ c. search tests)
     returns)

@@ -16,29 +16,11 @@ Inv-loop xs₀ n i₀ xs i = (i ≤ n) × (xs ≡ fill i 0 xs₀) × (length xs 
 abbrev μ-loop : tie.MeasureT-loop
 μ-loop xs₀ n i₀ xs i = n - i
 
-loop-holds : tie.Need-loop-holds Inv-loop μ-loop
-loop-holds c = search tests
-
-mul-xs : tie.Need-mul-xs Inv-loop μ-loop
-mul-xs c = search tests
-
-slice-write-xs : tie.Need-slice-write-xs Inv-loop μ-loop
-slice-write-xs c = search tests
-
-add-i : tie.Need-add-i Inv-loop μ-loop
-add-i c = search tests
-
-loop-less : tie.Need-loop-less Inv-loop μ-loop
-loop-less c = search tests
-
 loop-again : tie.Need-loop-again Inv-loop μ-loop
 loop-again c =
     let row = now (c .before .before .args .xs) in
     let at = c .before .loop in
     (search tests, rw (at .inv .1) (fill-more (at .i) 0 row (omega arith)), simp length-set (at .inv .2))
-
-same-length : tie.Need-same-length Inv-loop μ-loop
-same-length c = search tests
 
 returns : tie.Need-returns Inv-loop μ-loop
 returns c =
@@ -53,11 +35,11 @@ clear-xs-spec =
     (tie.spec
     Inv-loop
     μ-loop
-    loop-holds
-    mul-xs
-    slice-write-xs
-    add-i
-    loop-less
+    (λ c. search tests)
+    (λ c. search tests)
+    (λ c. search tests)
+    (λ c. search tests)
+    (λ c. search tests)
     loop-again
-    same-length
+    (λ c. search tests)
     returns)

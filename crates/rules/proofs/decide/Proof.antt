@@ -1,5 +1,5 @@
--- `decide` decides as the definition says: a refusal puts the record back; an accepted call makes the one access of its record, and the value
--- read gives the next.
+-- `decide` decides as the definition says: a refusal puts the record back; an accepted call makes the one access of its
+-- record, and the value read gives the next.
 use mathlib.Core.Path.{_≡_, _∙_, sym}
 use denote.Ref.{now}
 use Rattle.machine.specs.Memory.{Memory}
@@ -25,7 +25,8 @@ accepted : (c : tie.After-enum-told) → said (start c) ≡ Verdict.Accepted
 accepted c = sym (c .before .before .verdict .ensures) ∙ c .enum-told .given .1
 
 passed : (c : tie.After-enum-told)
-    → Accepts (start c .args .s) (start c .args .event .kind) (start c .args .event .task .0) (start c .args .seen) (registers (start c))
+    → Accepts (start c .args .s) (start c .args .event .kind) (start c .args .event .task .0) (start c .args .seen)
+    (registers (start c))
 passed c = accepts _ _ _ _ (registers (start c)) (start c .pre) (accepted c)
 
 access-requires : tie.Need-access-requires

@@ -18,24 +18,14 @@ abbrev μ-loop : tie.MeasureT-loop
 loop-holds : tie.Need-loop-holds Inv-loop μ-loop
 loop-holds c = (search needs, λ j l. omega arith)
 
-shared-slice-read-if1 : tie.Need-shared-slice-read-if1 Inv-loop μ-loop
-shared-slice-read-if1 c = search needs
-
-shared-slice-read-top : tie.Need-shared-slice-read-top Inv-loop μ-loop
-shared-slice-read-top c = search needs
-
-add-i : tie.Need-add-i Inv-loop μ-loop
-add-i c = search needs
-
-loop-less : tie.Need-loop-less Inv-loop μ-loop
-loop-less c = search needs
-
 loop-again : tie.Need-loop-again Inv-loop μ-loop
 loop-again c =
     let row = now (c .before .before .before .before .args .marks) in
     let at = c .before .before .before .loop in
-    let over : (at .top ≤ c .if1 .top) × (getD row (at .i) 0 ≤ c .if1 .top) = ⊎-elim (λ w. omega arith) (λ w. omega arith) (c .if1 .came) in
-    (search needs, low-more row (c .if1 .top) (at .i) (low-wider row (at .top) (c .if1 .top) (at .i) (at .inv .1) (over .0)) (over .1))
+    let over : (at .top ≤ c .if1 .top) × (getD row (at .i) 0 ≤ c .if1 .top) =
+    ⊎-elim (λ w. omega arith) (λ w. omega arith) (c .if1 .came) in
+    let wider = low-wider row (at .top) (c .if1 .top) (at .i) (at .inv .1) (over .0) in
+    (search needs, low-more row (c .if1 .top) (at .i) wider (over .1))
 
 returns : tie.Need-returns Inv-loop μ-loop
 returns c = λ i l. c .before .loop .inv .1 i (omega arith)
@@ -47,9 +37,9 @@ largest-mark-spec =
     Inv-loop
     μ-loop
     loop-holds
-    shared-slice-read-if1
-    shared-slice-read-top
-    add-i
-    loop-less
+    (λ c. search needs)
+    (λ c. search needs)
+    (λ c. search needs)
+    (λ c. search needs)
     loop-again
     returns)

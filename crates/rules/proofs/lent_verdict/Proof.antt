@@ -18,7 +18,8 @@ within c = sym (c .before .permitted .ensures) ∙ not-false _ (c .if1 .left)
 
 returns : tie.Need-returns
 returns c =
-    let outside : permitted (c .before .before .before .before .args .s) ≡ false = sym (c .before .permitted .ensures) ∙ not-true _ (c .if1 .taken) in
+    let outside : permitted (c .before .before .before .before .args .s) ≡ false =
+    sym (c .before .permitted .ensures) ∙ not-true _ (c .if1 .taken) in
     rw outside
 
 row-short-requires : tie.Need-row-short-requires
@@ -26,13 +27,16 @@ row-short-requires c κs = rw (within c) tt
 
 returns-2 : tie.Need-returns-2
 returns-2 c =
-    let yes : short (c .before .before .before .before .before .before) ≡ true = sym (c .before .row-short .ensures) ∙ c .if2 .taken in
+    let yes : short (c .before .before .before .before .before .before) ≡ true =
+    sym (c .before .row-short .ensures) ∙ c .if2 .taken in
     rw (within (c .before .before), yes)
 
 returns-3 : tie.Need-returns-3
 returns-3 c =
-    let no : short (c .before .before .before .before .before .before) ≡ false = sym (c .before .row-short .ensures) ∙ c .if2 .left in
+    let no : short (c .before .before .before .before .before .before) ≡ false =
+    sym (c .before .row-short .ensures) ∙ c .if2 .left in
     rw (within (c .before .before), no)
 
 pub lent-verdict-spec : {M : Type 1} → statement M
-lent-verdict-spec = tie.close (tie.spec (λ c κs. search tests) returns row-short-requires returns-2 returns-3)
+lent-verdict-spec =
+    tie.close (tie.spec (λ c κs. search tests) returns row-short-requires returns-2 returns-3)

@@ -31,7 +31,8 @@ records-good c = le-ltb _ _ (c .if1 .left)
 
 -- and from here on the X numbers
 xs-good : (c : tie.Else2) → bad-x (c .before .before .before .before .before .before .before) ≡ false
-xs-good c = ap₂ ltb (sym (c .before .before .bad-x .ensures)) (sym (c .before .blocks2 .ensures)) ∙ le-ltb _ _ (c .if2 .left)
+xs-good c =
+    ap₂ ltb (sym (c .before .before .bad-x .ensures)) (sym (c .before .blocks2 .ensures)) ∙ le-ltb _ _ (c .if2 .left)
 
 bad-x-requires : tie.Need-bad-x-requires
 bad-x-requires c κs = let a = c .before .before .before .before in (a .pre .0, long a .xs-long)
@@ -44,7 +45,8 @@ returns-2 c =
     rw (records-good (found .before), bad, found .bad-x .ensures)
 
 bad-mark-requires : tie.Need-bad-mark-requires
-bad-mark-requires c κs = let a = c .before .before .before .before .before .before .before in (a .pre .0, long a .marks-long)
+bad-mark-requires c κs =
+    let a = c .before .before .before .before .before .before .before in (a .pre .0, long a .marks-long)
 
 returns-3 : tie.Need-returns-3
 returns-3 c =
@@ -57,10 +59,11 @@ returns-3 c =
 
 returns-4 : tie.Need-returns-4
 returns-4 c =
-    let xs = c .before .before .before in
+    let found = c .before .before in
+    let xs = found .before in
     let records = xs .before .before .before in
     let good : bad-mark (records .before .before .before .before) ≡ false =
-    ap₂ ltb (sym (c .before .before .bad-mark .ensures)) (sym (c .before .marks-needed .ensures)) ∙ le-ltb _ _ (c .if3 .left) in
+    ap₂ ltb (sym (found .bad-mark .ensures)) (sym (c .before .marks-needed .ensures)) ∙ le-ltb _ _ (c .if3 .left) in
     rw (records-good records, xs-good xs, good)
 
 pub range-verdict-spec : {M : Type 1} → statement M

@@ -1,6 +1,6 @@
 -- `row_short` is the definition's: the first row that is short decides.
 use mathlib.Core.Path.{_≡_, _∙_, sym, ap}
-use mathlib.Core.Bool.{true, false}
+use mathlib.Core.Bool.{Bool, true, false}
 use lib.Dec.{ltb}
 use lib.ListN.{length}
 use borrow.Author.Tests.{lt-ltb, le-ltb}
@@ -10,32 +10,38 @@ use Rattle.machine.proofs.Tests.{tests}
 use Rattle.rules.proofs.row_short.Statement.{statement}
 use Rattle.rules.proofs.row_short.Tie as tie
 
-cast-if1 : tie.Need-cast-if1
-cast-if1 c = search tests
+abbrev short-records : tie.Start → Bool
+short-records c = ltb (c .args .records) (c .args .s .n)
 
-returns : tie.Need-returns
-returns c = search tests
+abbrev short-xs : tie.Start → Bool
+short-xs c = ltb (length (now (c .args .xs))) (blocks (c .args .s))
 
-blocks-requires : tie.Need-blocks-requires
-blocks-requires c κs = search tests
+-- from here on the records suffice
+records-long : (c : tie.Else1) → short-records (c .before .before .before .before) ≡ false
+records-long c = le-ltb _ _ (c .if1 .left)
 
 returns-2 : tie.Need-returns-2
 returns-2 c =
-    let a = c .before .before .before .before .before .before .args in
-    let records : ltb (a .records) (a .s .n) ≡ false = le-ltb _ _ (c .before .before .if1 .left) in
-    let xs : ltb (length (now (a .xs))) (blocks (a .s)) ≡ true = ap (ltb (length (now (a .xs)))) (sym (c .before .blocks2 .ensures)) ∙ lt-ltb _ _ (c .if2 .taken) in
-    rw (records, xs)
-
-marks-needed-requires : tie.Need-marks-needed-requires
-marks-needed-requires c κs = search tests
+    let a = c .before .before .before .before .before .before in
+    let short : short-xs a ≡ true =
+    ap (ltb (length (now (a .args .xs)))) (sym (c .before .blocks2 .ensures)) ∙ lt-ltb _ _ (c .if2 .taken) in
+    rw (records-long (c .before .before), short)
 
 returns-3 : tie.Need-returns-3
 returns-3 c =
-    let a = c .before .before .before .before .before .before .before .args in
-    let records : ltb (a .records) (a .s .n) ≡ false = le-ltb _ _ (c .before .before .before .if1 .left) in
-    let xs : ltb (length (now (a .xs))) (blocks (a .s)) ≡ false = ap (ltb (length (now (a .xs)))) (sym (c .before .before .blocks2 .ensures)) ∙ le-ltb _ _ (c .before .if2 .left) in
-    rw (records, xs, c .marks-needed .ensures)
+    let a = c .before .before .before .before .before .before .before in
+    let at = c .before in
+    let long : short-xs a ≡ false =
+    ap (ltb (length (now (a .args .xs)))) (sym (at .before .blocks2 .ensures)) ∙ le-ltb _ _ (at .if2 .left) in
+    rw (records-long (at .before .before), long, c .marks-needed .ensures)
 
 pub row-short-spec : {M : Type 1} → statement M
 row-short-spec =
-    tie.close (tie.spec cast-if1 returns blocks-requires returns-2 marks-needed-requires returns-3)
+    tie.close
+    (tie.spec
+    (λ c. search tests)
+    (λ c. search tests)
+    (λ c κs. search tests)
+    returns-2
+    (λ c κs. search tests)
+    returns-3)

@@ -30,28 +30,21 @@ abbrev μ-search : tie.MeasureT-search
 
 -- the blocks and the width make the count of needed marks, and the row has them
 whole : (c : tie.At-search Inv-loop2 μ-loop2 Inv-loop μ-loop Inv-search μ-search)
-    → c .before .before .blocks2 .result * c .before .width .result ≡ marksNeeded (c .before .before .before .before .args .s)
+    → c .before .before .blocks2 .result * c .before .width .result
+    ≡ marksNeeded (c .before .before .before .before .args .s)
 whole c = rw (c .before .before .blocks2 .ensures, c .before .width .ensures)
 
 -- a place of a block is in the row
 inside : (c : tie.In-loop2 Inv-loop2 μ-loop2 Inv-loop μ-loop Inv-search μ-search)
-    → c .before .before .before .loop .block * c .before .before .before .before .before .width .result + c .before .loop2 .place
+    → c .before .before .before .loop .block * c .before .before .before .before .before .width .result
+    + c .before .loop2 .place
     < marksNeeded (c .before .before .before .before .before .before .before .before .args .s)
 inside c =
-    rw (← whole (c .before .before .before .before))
-    (block-within (c .before .before .before .loop .block) (c .before .before .before .before .before .width .result) (c .before .loop2 .place) (c .before .before .before .before .before .before .blocks2 .result) (c .before .before .loop-test .taken) (c .loop2-test .taken))
-
-blocks-requires : tie.Need-blocks-requires Inv-loop2 μ-loop2 Inv-loop μ-loop Inv-search μ-search
-blocks-requires c κs = search needs
-
-width-requires : tie.Need-width-requires Inv-loop2 μ-loop2 Inv-loop μ-loop Inv-search μ-search
-width-requires c κs = search needs
-
-cast-width : tie.Need-cast-width Inv-loop2 μ-loop2 Inv-loop μ-loop Inv-search μ-search
-cast-width c = search needs
-
-search-holds : tie.Need-search-holds Inv-loop2 μ-loop2 Inv-loop μ-loop Inv-search μ-search
-search-holds c = search needs
+    let outer = c .before .before .before in
+    let set = outer .before .before in
+    rw (← whole (outer .before))
+    (block-within (outer .loop .block) (set .width .result) (c .before .loop2 .place) (set .before .blocks2 .result)
+    (c .before .before .loop-test .taken) (c .loop2-test .taken))
 
 loop-holds : tie.Need-loop-holds Inv-loop2 μ-loop2 Inv-loop μ-loop Inv-search μ-search
 loop-holds c = (search needs, λ j l. omega (arith, zero-mul (c .before .width .result)))
@@ -60,34 +53,28 @@ loop2-holds : tie.Need-loop2-holds Inv-loop2 μ-loop2 Inv-loop μ-loop Inv-searc
 loop2-holds c = (search needs, λ j l. c .before .loop .inv .1 j (omega arith))
 
 mul-i : tie.Need-mul-i Inv-loop2 μ-loop2 Inv-loop μ-loop Inv-search μ-search
-mul-i c = omega (arith, c .before .before .before .before .before .before .before .before .good, c .before .before .before .before .before .before .before .before .pre, inside c)
+mul-i c =
+    let start = c .before .before .before .before .before .before .before .before in
+    omega (arith, start .good, start .pre, inside c)
 
 add-i : tie.Need-add-i Inv-loop2 μ-loop2 Inv-loop μ-loop Inv-search μ-search
-add-i c = omega (arith, c .before .before .before .before .before .before .before .before .good, c .before .before .before .before .before .before .before .before .pre, inside c)
+add-i c =
+    let start = c .before .before .before .before .before .before .before .before in
+    omega (arith, start .good, start .pre, inside c)
 
 shared-slice-read-if1 :
     tie.Need-shared-slice-read-if1 Inv-loop2 μ-loop2 Inv-loop μ-loop Inv-search μ-search
-shared-slice-read-if1 c = omega (arith, c .before .before .before .before .before .before .before .before .before .pre, inside (c .before))
-
-add-place : tie.Need-add-place Inv-loop2 μ-loop2 Inv-loop μ-loop Inv-search μ-search
-add-place c = search needs
-
-loop2-less : tie.Need-loop2-less Inv-loop2 μ-loop2 Inv-loop μ-loop Inv-search μ-search
-loop2-less c = search needs
+shared-slice-read-if1 c =
+    omega (arith, c .before .before .before .before .before .before .before .before .before .pre, inside (c .before))
 
 loop2-again : tie.Need-loop2-again Inv-loop2 μ-loop2 Inv-loop μ-loop Inv-search μ-search
 loop2-again c =
     let row = now (c .before .before .before .before .before .before .before .before .before .before .args .marks) in
     let at = c .before .before .before .loop2 in
-    let start = c .before .before .before .before .before .loop .block * c .before .before .before .before .before .before .before .width .result in
+    let outer = c .before .before .before .before .before in
+    let start = outer .loop .block * outer .before .before .width .result in
     let low = low-more row 1 (start + at .place) (at .inv .1) (c .if1 .left) in
     (search needs, λ j l. low j (omega arith))
-
-add-block : tie.Need-add-block Inv-loop2 μ-loop2 Inv-loop μ-loop Inv-search μ-search
-add-block c = search needs
-
-loop-less : tie.Need-loop-less Inv-loop2 μ-loop2 Inv-loop μ-loop Inv-search μ-search
-loop-less c = search needs
 
 loop-again : tie.Need-loop-again Inv-loop2 μ-loop2 Inv-loop μ-loop Inv-search μ-search
 loop-again c =
@@ -97,12 +84,15 @@ loop-again c =
     (search needs, λ j l. c .before .loop2 .inv .1 j (omega arith))
 
 mul-result : tie.Need-mul-result Inv-loop2 μ-loop2 Inv-loop μ-loop Inv-search μ-search
-mul-result c = omega (arith, c .before .before .before .before .before .before .good, c .before .before .before .before .before .before .pre, whole (c .before .before))
+mul-result c =
+    let start = c .before .before .before .before .before .before in
+    omega (arith, start .good, start .pre, whole (c .before .before))
 
 returns : tie.Need-returns Inv-loop2 μ-loop2 Inv-loop μ-loop Inv-search μ-search
 returns c =
     let a = c .before .before .before .before .before .before .before .before .before .before .args in
-    stops-at-first (now (a .marks)) 1 (marksNeeded (a .s)) _ (inside (c .before .before)) (c .before .before .before .loop2 .inv .1) (c .if1 .taken)
+    stops-at-first (now (a .marks)) 1 (marksNeeded (a .s)) _ (inside (c .before .before))
+    (c .before .before .before .loop2 .inv .1) (c .if1 .taken)
 
 returns-2 : tie.Need-returns-2 Inv-loop2 μ-loop2 Inv-loop μ-loop Inv-search μ-search
 returns-2 c =
@@ -123,20 +113,20 @@ search-marks-spec =
     μ-loop
     Inv-search
     μ-search
-    blocks-requires
-    width-requires
-    cast-width
-    search-holds
+    (λ c κs. search needs)
+    (λ c κs. search needs)
+    (λ c. search needs)
+    (λ c. search needs)
     loop-holds
     loop2-holds
     mul-i
     add-i
     shared-slice-read-if1
-    add-place
-    loop2-less
+    (λ c. search needs)
+    (λ c. search needs)
     loop2-again
-    add-block
-    loop-less
+    (λ c. search needs)
+    (λ c. search needs)
     loop-again
     mul-result
     returns

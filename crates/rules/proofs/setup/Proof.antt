@@ -37,12 +37,14 @@ marks-needed-requires c κs = passed (c .before .before .before .before .before 
 
 clear-marks-requires : tie.Need-clear-marks-requires
 clear-marks-requires c κs =
-    omega (arith, c .marks-needed .ensures, passed (c .before .before .before .before .before .before .before) .long .marks-long)
+    let ok = passed (c .before .before .before .before .before .before .before) in
+    omega (arith, c .marks-needed .ensures, ok .long .marks-long)
 
 returns : tie.Need-returns
 returns c =
     let a = c .before .before .before .before .before .before .before .before in
-    let refused : said a ≡ Verdict.Refused _ = sym (c .before .before .before .lent-verdict .ensures) ∙ c .before .why .given .1 in
+    let refused : said a ≡ Verdict.Refused _ =
+    sym (c .before .before .before .lent-verdict .ensures) ∙ c .before .why .given .1 in
     rw refused
 
 returns-2 : tie.Need-returns-2
@@ -52,7 +54,8 @@ returns-2 c =
     let told = xs-done .before .before .before in
     let a = start told .args in
     let xs = xs-done .clear-xs .ensures ∙ ap (λ n. fill n 0 (now (a .xs))) (xs-done .before .blocks2 .ensures) in
-    let marks = marks-done .clear-marks .ensures ∙ ap (λ n. fill n 0 (now (a .marks))) (marks-done .before .marks-needed .ensures) in
+    let marks =
+    marks-done .clear-marks .ensures ∙ ap (λ n. fill n 0 (now (a .marks))) (marks-done .before .marks-needed .ensures) in
     rw (accepted told, xs, marks)
 
 pub setup-spec : {M : Type 1} → statement M

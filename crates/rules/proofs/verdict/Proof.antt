@@ -39,19 +39,22 @@ range-verdict-requires c κs =
 returns : tie.Need-returns
 returns c =
     let a = c .before .before .before .before .before .before in
-    let refused : lent a ≡ Verdict.Refused _ = sym (c .before .before .before .lent-verdict .ensures) ∙ c .before .why .given .1 in
+    let refused : lent a ≡ Verdict.Refused _ =
+    sym (c .before .before .before .lent-verdict .ensures) ∙ c .before .why .given .1 in
     rw (parts a, refused)
 
 returns-2 : tie.Need-returns-2
 returns-2 c =
     let told = c .before .before .before .before in
-    let refused : range (start told) ≡ Verdict.Refused _ = sym (c .before .before .before .range-verdict .ensures) ∙ c .before .why2 .given .1 in
+    let refused : range (start told) ≡ Verdict.Refused _ =
+    sym (c .before .before .before .range-verdict .ensures) ∙ c .before .why2 .given .1 in
     rw (parts (start told), lent-accepted told, refused)
 
 returns-3 : tie.Need-returns-3
 returns-3 c =
     let told = c .before .before .before .before in
-    let passed : range (start told) ≡ Verdict.Accepted = sym (c .before .before .before .range-verdict .ensures) ∙ c .before .enum-told2 .given .1 in
+    let passed : range (start told) ≡ Verdict.Accepted =
+    sym (c .before .before .before .range-verdict .ensures) ∙ c .before .enum-told2 .given .1 in
     rw (parts (start told), lent-accepted told, passed) (c .task-verdict .ensures)
 
 pub verdict-spec : {M : Type 1} → statement M
