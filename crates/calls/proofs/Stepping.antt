@@ -2,7 +2,6 @@
 use denote.Struct.Laws.{owes}
 use denote.Enum.Laws as EnumLaws
 use Rattle.machine.specs.declared.Kind.{Kind}
-use Rattle.machine.specs.declared.Event.{Event}
 use Rattle.machine.specs.declared.TaskId.{TaskId}
 use Rattle.machine.proofs.Kind as K
 use Rattle.machine.proofs.Kind.Laws as K′

@@ -2,7 +2,6 @@
 use mathlib.Core.Path.{_≡_, refl, sym, ap, _∙_}
 use mathlib.Core.List.{List, _++_}
 use Prim.Native.Nat.{ℕ, _+_, _*_, _≤_, _<_, max}
-use native.Mathlib.Nat.{le-refl}
 use native.Mathlib.Numerals.{add-one}
 use native.Mathlib.Omega.{arith}
 use lib.ListN.{length, getD, replicate}
@@ -10,7 +9,8 @@ use Rattle.machine.specs.Records.{idle}
 use Rattle.machine.specs.Memory.{Memory, largest}
 use Rattle.machine.specs.Calls.{Outcome, call, setup}
 use Rattle.file.specs.File.{eventAt}
-use Rattle.printed.specs.Listing.{Progress, gridLine, eventLine, endLine, turnsAfter, completed, start, advanceBy, advance, progress, ended, holdersOf}
+use Rattle.printed.specs.Listing.{Progress, gridLine, eventLine, endLine, turnsAfter, completed, holdersOf}
+use Rattle.printed.specs.Listing.{advanceBy, advance, progress, ended}
 use Rattle.machine.specs.declared.Settings.{Settings}
 use Rattle.machine.specs.declared.Event.{Event}
 use Rattle.machine.specs.Lent.{lent}
@@ -37,19 +37,23 @@ module _ (s : Settings) (m : Memory) (room : List ℕ) (to : Standing) (left : O
       → Writes 23 room 0 (gridLine s) (to .at) room′ → Begun s m room to (left .memory) room′
   stands-begun calls turns peak most line = record { stands = rw (sym calls, turns, peak, most); line = line }
 
-module _ (s : Settings) (position : ℕ) (event : Event) (at : Standing) (m : Memory) (room : List ℕ) (to : Standing) (left : Outcome) (room′ : List ℕ) where
+module _ (s : Settings) (position : ℕ) (event : Event) (at : Standing) (m : Memory) (room : List ℕ)
+    (to : Standing) (left : Outcome) (room′ : List ℕ) where
   -- what the call left, its line and the counts after it are one event more
   pub stands-advanced : left ≡ outcomeOf s (Call.Of event) m
       → to .turns ≡ turnsAfter event (left .answer) (at .turns)
       → to .peak ≡ max (at .peak) (holdersOf s (left .memory .records))
-      → to .most ≡ max (at .most) (completed (left .answer) (getD (turnsAfter event (left .answer) (at .turns)) (event .task .0) 0))
+      → to .most
+      ≡ max (at .most) (completed (left .answer) (getD (turnsAfter event (left .answer) (at .turns)) (event .task .0) 0))
       → Writes 31 room (at .at) (eventLine position event (left .answer)) (to .at) room′
       → Advanced s position event at m room to (left .memory) room′
-  stands-advanced calls turns peak most line = record { stands = rw (sym calls, turns, peak, most); line = rw (sym calls) line }
+  stands-advanced calls turns peak most line =
+      record { stands = rw (sym calls, turns, peak, most); line = rw (sym calls) line }
 
 -- rows of zeros as long as the largest settings need, with as many idle records, are the memory that is lent
-pub fresh-rows : (xs marks : List ℕ) → xs ≡ replicate 120 0 → marks ≡ replicate 30720 0 → lent (replicate 256 idle) xs marks ≡ largest
-fresh-rows xs marks e e′ = ap (λ (x : List ℕ). lent (replicate 256 idle) x marks) e ∙ ap (λ (m : List ℕ). lent (replicate 256 idle) (replicate 120 0) m) e′
+pub fresh-rows : (xs marks : List ℕ) → xs ≡ replicate 120 0 → marks ≡ replicate 30720 0
+    → lent (replicate 256 idle) xs marks ≡ largest
+fresh-rows xs marks e e′ = λ k. lent (replicate 256 idle) (e k) (e′ k)
 
 -- the code stands where the definition is after i events, and the lines so far stand at the start of the room
 pub record Stands (s : Settings) (file : List ℕ) (i : ℕ) (at : Standing) (m : Memory) (first room : List ℕ) : Type 0 where
@@ -62,15 +66,16 @@ abbrev after : List ℕ → Progress → Progress
 after lines p = record { memory = p .memory; turns = p .turns; peak = p .peak; most = p .most; lines = lines ++ p .lines }
 
 module _ (s : Settings) (file : List ℕ) where
-  pub begins : (m : Memory) (room : List ℕ) (to : Standing) (m′ : Memory) (room′ : List ℕ) → m ≡ largest → Begun s m room to m′ room′
-      → Stands s file 0 to m′ room room′
+  pub begins : (m : Memory) (room : List ℕ) (to : Standing) (m′ : Memory) (room′ : List ℕ) → m ≡ largest
+      → Begun s m room to m′ room′ → Stands s file 0 to m′ room room′
   begins m room to m′ room′ fresh begun =
       let memory : outcomeOf s Call.Setup m .memory ≡ setup s largest .memory =
       ap (λ (o : Outcome). o .memory) (setup-outcome s m ∙ ap (setup s) fresh) in
       record { lines = gridLine s; stands = begun .stands ∙ rw memory; printed = begun .line }
 
   pub advances : (i : ℕ) (at : Standing) (m : Memory) (first room : List ℕ) (to : Standing) (m′ : Memory) (room′ : List ℕ)
-      → 23 + 31 * i + 31 ≤ length first → Stands s file i at m first room → Advanced s i (eventAt file i) at m room to m′ room′
+      → 23 + 31 * i + 31 ≤ length first → Stands s file i at m first room
+      → Advanced s i (eventAt file i) at m room to m′ room′
       → Stands s file (i + 1) to m′ first room′
   advances i at m first room to m′ room′ fits before step =
       let event = eventAt file i in
@@ -84,13 +89,15 @@ module _ (s : Settings) (file : List ℕ) where
         printed = wider (then (before .printed) 31 (omega arith) (λ more. step .line)) (23 + 31 * (i + 1)) (omega arith);
       }
 
-  pub ends : (i : ℕ) (at : Standing) (m : Memory) (first room : List ℕ) (holders to : ℕ) (room′ : List ℕ) → 23 + 31 * i + 22 ≤ length first
-      → Stands s file i at m first room → holders ≡ holdersOf s (m .records)
-      → Writes 22 room (at .at) (endLine holders (at .peak) (at .most)) to room′ → Puts first 0 (ended s (progress s file i)) to room′
+  pub ends : (i : ℕ) (at : Standing) (m : Memory) (first room : List ℕ) (holders to : ℕ) (room′ : List ℕ)
+      → 23 + 31 * i + 22 ≤ length first → Stands s file i at m first room → holders ≡ holdersOf s (m .records)
+      → Writes 22 room (at .at) (endLine holders (at .peak) (at .most)) to room′
+      → Puts first 0 (ended s (progress s file i)) to room′
   ends i at m first room holders to room′ fits before counted last =
       rw (sym (before .stands), sym counted) (then (before .printed) 22 (omega arith) (λ more. last) .puts)
 
-module _ {s : Settings} {file : List ℕ} {i : ℕ} {at : Standing} {m : Memory} {first room : List ℕ} (here : Stands s file i at m first room) where
+module _ {s : Settings} {file : List ℕ} {i : ℕ} {at : Standing} {m : Memory} {first room : List ℕ}
+    (here : Stands s file i at m first room) where
   -- what is left of the room
   pub stands-room : (more : ℕ) → 23 + 31 * i + more ≤ length first → at .at + more ≤ length room
   stands-room more fits = next (here .printed) more (omega arith)
@@ -99,5 +106,6 @@ module _ {s : Settings} {file : List ℕ} {i : ℕ} {at : Standing} {m : Memory}
   pub stands-turns : (p : ℕ) → i < 65535 → getD (at .turns) p 0 < 65535
   stands-turns p l =
       let few = turns-few s file i p in
-      let same : getD (at .turns) p 0 ≡ getD (progress s file i .turns) p 0 = ap (λ (q : Progress). getD (q .turns) p 0) (here .stands) in
+      let same : getD (at .turns) p 0 ≡ getD (progress s file i .turns) p 0 =
+      ap (λ (q : Progress). getD (q .turns) p 0) (here .stands) in
       omega arith

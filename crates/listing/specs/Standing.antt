@@ -40,7 +40,7 @@ pub record Begun (s : Settings) (m : Memory) (room : List ℕ) (to : Standing) (
 abbrev pub advanced : Settings → ℕ → Event → Standing → Memory → Progress
 advanced s position event at m = advanceBy s position event (outcomeOf s (Call.Of event) m) (progressOf at m [])
 
-pub record Advanced (s : Settings) (position : ℕ) (event : Event) (at : Standing) (m : Memory) (room : List ℕ) (to : Standing) (m′ : Memory)
-    (room′ : List ℕ) : Type 0 where
+pub record Advanced (s : Settings) (position : ℕ) (event : Event) (at : Standing) (m : Memory) (room : List ℕ)
+    (to : Standing) (m′ : Memory) (room′ : List ℕ) : Type 0 where
   pub stands : progressOf to m′ (advanced s position event at m .lines) ≡ advanced s position event at m
   pub line : Writes 31 room (at .at) (advanced s position event at m .lines) (to .at) room′

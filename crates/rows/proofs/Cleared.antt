@@ -24,4 +24,5 @@ cleared-length (suc n) (first ∷ row) = ap suc (cleared-length n row)
 pub cleared-fills : (n : ℕ) (row : List Record) → n ≤ length row → cleared n row ≡ fill n idle row
 cleared-fills zero row enough = refl
 cleared-fills (suc n) [] enough = absurd (not-suc-le-zero enough)
-cleared-fills (suc n) (first ∷ row) enough = ap (λ (l : List Record). idle ∷ l) (cleared-fills n row (le-of-suc-le-suc enough))
+cleared-fills (suc n) (first ∷ row) enough =
+    ap (λ (l : List Record). idle ∷ l) (cleared-fills n row (le-of-suc-le-suc enough))

@@ -1,5 +1,4 @@
 -- The types of a row as plain data, and each function as its own walk and its callers have it.
-use mathlib.Core.List.{[], _∷_}
 use mir.Syntax.{w64}
 use denote.Exit.{yes}
 use denote.RattleType.{RattleType}
@@ -48,10 +47,18 @@ abbrev pub count-fn : Function count.ended
 count-fn = record { params = (shared R 0 tt yes, tt); result = λ _. number w64; clauses = count.clauses }
 
 abbrev pub take-fn : Function take.ended
-take-fn = record { params = (shared R 0 tt yes, (value (number w64) yes, (value record-data yes, tt))); result = λ _. record-data; clauses = take.clauses }
+take-fn = record {
+  params = (shared R 0 tt yes, (value (number w64) yes, (value record-data yes, tt)));
+  result = λ _. record-data;
+  clauses = take.clauses;
+}
 
 abbrev pub put-fn : Function put.ended
-put-fn = record { params = (changed R 0 tt, (value (number w64) yes, (value record-data yes, tt))); result = λ _. unit; clauses = put.clauses }
+put-fn = record {
+  params = (changed R 0 tt, (value (number w64) yes, (value record-data yes, tt)));
+  result = λ _. unit;
+  clauses = put.clauses;
+}
 
 abbrev pub idle-fn : Function idle.ended
 idle-fn = record { params = tt; result = λ _. record-data; clauses = idle.clauses }
@@ -60,13 +67,25 @@ abbrev pub start-fn : Function start.ended
 start-fn = record { params = tt; result = λ _. seen-data; clauses = start.clauses }
 
 abbrev pub step-fn : Function step.ended
-step-fn = record { params = (value settings-data yes, (value seen-data yes, (value record-data yes, (value (number w64) yes, tt)))); result = λ _. seen-data; clauses = step.clauses }
+step-fn = record {
+  params = (value settings-data yes, (value seen-data yes, (value record-data yes, (value (number w64) yes, tt))));
+  result = λ _. seen-data;
+  clauses = step.clauses;
+}
 
 abbrev pub pass-fn : Function pass.ended
-pass-fn = record { params = (value settings-data yes, (shared R 0 tt yes, tt)); result = λ _. seen-data; clauses = pass.clauses }
+pass-fn = record {
+  params = (value settings-data yes, (shared R 0 tt yes, tt));
+  result = λ _. seen-data;
+  clauses = pass.clauses;
+}
 
 abbrev pub look-fn : Function look.ended
-look-fn = record { params = (value settings-data yes, (shared R 0 tt yes, (value task-data yes, tt))); result = λ _. view-data; clauses = look.clauses }
+look-fn = record {
+  params = (value settings-data yes, (shared R 0 tt yes, (value task-data yes, tt)));
+  result = λ _. view-data;
+  clauses = look.clauses;
+}
 
 abbrev pub fill-fn : Function fill.ended
 fill-fn = record { params = (changed R 0 tt, (value (number w64) yes, tt)); result = λ _. unit; clauses = fill.clauses }

@@ -11,7 +11,6 @@ use Rattle.counting.specs.Counting.{tick, firstOr, firstBad, count}
 use Rattle.machine.specs.declared.Settings.{Settings}
 use Rattle.machine.specs.declared.Record.{Record}
 use Rattle.rows.specs.Rows.{seenTo}
-use Rattle.rows.specs.declared.Seen.{Seen}
 
 tick-le : (b : Bool) (n i : ℕ) → n ≤ i → tick b n ≤ suc i
 tick-le true n i le = omega (arith, le)
@@ -28,6 +27,9 @@ unfolding count firstBad
 seen-none s row = refl
 
 pub seen-next : (s : Settings) (row : List Record) (i : ℕ)
-    → record { bad = firstOr (seenTo s row i .bad) i (recordInRange s (getD row i idle)); out = tick (isOut (getD row i idle .state)) (seenTo s row i .out) } ≡ seenTo s row (suc i)
+    → record {
+      bad = firstOr (seenTo s row i .bad) i (recordInRange s (getD row i idle));
+      out = tick (isOut (getD row i idle .state)) (seenTo s row i .out);
+    } ≡ seenTo s row (suc i)
 unfolding count firstBad
 seen-next s row i = refl

@@ -1,9 +1,13 @@
 -- `turn` hands its rows to `step`, with the event of its kind.
-use Rattle.walks.proofs.Prelude.{refl, URA, Model, Heap, Lfts, Shares, GhostRules, Running, givenOf, Given, emp, id⊢, factI, _$_, !, by, agg, lit, and-then, no-more, Args, Lasts, AllReal, Real, typed, Body, hears, calls, exits, meets, leaves, copies-all, points-to, refers, joins, sets, lands-in, gives}
+use Rattle.walks.proofs.Prelude.{refl}
+use Rattle.walks.proofs.Prelude.{URA, Model, Heap, Lfts, Shares, GhostRules, Running, givenOf, Given}
+use Rattle.walks.proofs.Prelude.{emp, id⊢, factI, _$_, !, by, agg, lit, and-then, no-more}
+use Rattle.walks.proofs.Prelude.{Args, Lasts, AllReal, Real, typed, Body, hears, calls, exits, meets, leaves}
+use Rattle.walks.proofs.Prelude.{copies-all, points-to, refers, joins, sets, lands-in, gives, Turn}
 use Rattle.machine.specs.Memory.{Memory}
 use Rattle.machine.specs.Calls.{Outcome, call}
 use Rattle.machine.specs.Lent.{lent}
-use Rattle.machine.specs.declared.{Event.Event, Kind.Kind, Record.Record, Settings.Settings, TaskId.TaskId}
+use Rattle.machine.specs.declared.{Event.Event, Kind.Kind, TaskId.TaskId}
 use Rattle.calls.proofs.Functions.{answer-data, kind-data, event-data, step-fn, turn-fn}
 use Rattle.calls.proofs.Stepping.{kind-is, event-is}
 use Rattle.calls.proofs.step.Symbol as callee

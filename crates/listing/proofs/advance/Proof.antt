@@ -18,10 +18,13 @@ returns c =
     let c1 = c3 .before .before .before .before .before .before .before .before .before .before in
     let a = c1 .before .before .before .before .before .before .before .args in
     let turns = c3 .before .before .turns-after .ensures in
-    let used : c3 .completed .result ≡ completed (c1 .make .result .answer) (getD (turnsAfter (a .event) (c1 .make .result .answer) (a .at .turns)) (a .event .task .0) 0) =
+    let answer = c1 .make .result .answer in
+    let own = getD (turnsAfter (a .event) answer (a .at .turns)) (a .event .task .0) 0 in
+    let used : c3 .completed .result ≡ completed answer own =
     c3 .completed .ensures ∙ rw (c3 .before .turns-of .ensures, turns) refl in
-    stands-advanced (a .s) (a .position) (a .event) (a .at) (lent (a .at .records) (now (a .xs)) (now (a .marks))) (now (a .room)) _ _ _
-    (c1 .make .ensures) turns (c4 .before .larger .ensures ∙ ap (max (a .at .peak)) (c4 .before .before .holders .ensures .0))
+    stands-advanced (a .s) (a .position) (a .event) (a .at) (lent (a .at .records) (now (a .xs)) (now (a .marks)))
+    (now (a .room)) _ _ _ (c1 .make .ensures) turns
+    (c4 .before .larger .ensures ∙ ap (max (a .at .peak)) (c4 .before .before .holders .ensures .0))
     (c4 .larger2 .ensures ∙ ap (max (a .at .most)) used) (c5 .put-event .ensures)
 
 pub advance-spec : {M : Type 1} → statement M

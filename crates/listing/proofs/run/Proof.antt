@@ -18,61 +18,68 @@ Inv-loop file s count room₀ xs₀ marks₀ standing₀ i₀ room xs marks stan
     × (length room ≡ length room₀)
     × (length xs ≡ length xs₀)
     × (length marks ≡ length marks₀)
-    × ((first : List ℕ) → 45 + 31 * count ≤ length first → Stands s file 0 standing₀ (lent (standing₀ .records) xs₀ marks₀) first room₀
+    × ((first : List ℕ) → 45 + 31 * count ≤ length first
+    → Stands s file 0 standing₀ (lent (standing₀ .records) xs₀ marks₀) first room₀
     → Stands s file i standing (lent (standing .records) xs marks) first room)
 
 abbrev μ-loop : tie.MeasureT-loop
 μ-loop file s count room₀ xs₀ marks₀ standing₀ i₀ room xs marks standing i = count - i
 
 abbrev start : tie.At-loop Inv-loop μ-loop → tie.Start Inv-loop μ-loop
-start c = c .before .before .before .before .before .before .before .before .before .before .before .before .before .before .before
+start c =
+    c .before .before .before .before .before .before .before .before .before .before .before .before .before .before .before
 
 -- where the code stands at the loop's head
 here : (c : tie.At-loop Inv-loop μ-loop)
-    → Stands (start c .args .s) (now (start c .args .file)) (c .loop .i) (c .loop .standing) (lent (c .loop .standing .records) (c .loop .xs) (c .loop .marks)) (now (start c .args .room)) (c .loop .room)
+    → Stands (start c .args .s) (now (start c .args .file)) (c .loop .i) (c .loop .standing)
+    (lent (c .loop .standing .records) (c .loop .xs) (c .loop .marks)) (now (start c .args .room)) (c .loop .room)
 here c =
     let a = start c .args in
     let pre = start c .pre in
-    c .loop .inv .4 (now (a .room)) (pre .2) (begins (a .s) (now (a .file)) _ (now (a .room)) _ _ _ (pre .1) (c .before .before .before .before .before .before .before .begin .ensures))
+    let begun = c .before .before .before .before .before .before .before .begin .ensures in
+    c .loop .inv .4 (now (a .room)) (pre .2) (begins (a .s) (now (a .file)) _ (now (a .room)) _ _ _ (pre .1) begun)
 
 loop-holds : tie.Need-loop-holds Inv-loop μ-loop
 loop-holds c = (search needs, refl, refl, refl, λ first fits begun. begun)
 
 event-of-requires : tie.Need-event-of-requires Inv-loop μ-loop
-event-of-requires c κs = (c .before .before .before .before .before .before .before .before .before .before .before .before .before .before .before .before .pre .0, search needs)
+event-of-requires c κs = (start (c .before) .pre .0, search needs)
 
 advance-requires : tie.Need-advance-requires Inv-loop μ-loop
 advance-requires c κs =
-    let start = c .before .before .before .before .before .before .before .before .before .before .before .before .before .before .before .before .before .before .before .before in
-    let a = start .args in
-    let l = c .before .before .before .before .before .loop in
-    let stands = here (c .before .before .before .before .before) in
-    let few = events-few (now (a .file)) (a .s) (a .count) (start .pre .0) in
+    let at = c .before .before .before .before .before in
+    let a = start at .args in
+    let pre = start at .pre in
+    let l = at .loop in
+    let stands = here at in
+    let few = events-few (now (a .file)) (a .s) (a .count) (pre .0) in
     let room = stands-room stands 31 (search needs) in
-    (tasks-few (now (a .file)) (a .s) (a .count) (start .pre .0), λ p. stands-turns stands p (omega arith), room)
+    (tasks-few (now (a .file)) (a .s) (a .count) (pre .0), λ p. stands-turns stands p (omega arith), room)
 
 add-i : tie.Need-add-i Inv-loop μ-loop
-add-i c = omega (arith, c .before .before .before .before .before .before .before .before .before .before .before .before .before .before .before .before .before .before .before .before .before .before .before .before .before .before .before .fits .count)
+add-i c =
+    let at = c .before .before .before .before .before .before .before .before .before .before .before .before in
+    omega (arith, start at .fits .count)
 
 loop-again : tie.Need-loop-again Inv-loop μ-loop
 loop-again c =
     let step = c .before .before .before .before .before .before in
     let at = c .before .before .before .before .before .before .before .before .before .before .before .before in
-    let a = c .before .before .before .before .before .before .before .before .before .before .before .before .before .before .before .before .before .before .before .before .before .before .before .before .before .before .before .args in
+    let a = start at .args in
     let kept = step .advance .kept in
-    let event = step .before .before .before .before .event-of .ensures in (
+    let advanced = rw (step .before .before .before .before .event-of .ensures) at (step .advance .ensures) in (
       search needs,
       kept .1 .1 .1 .1 .0 ∙ at .loop .inv .1,
       kept .1 .1 .1 .1 .1 .0 ∙ at .loop .inv .2,
       kept .1 .1 .1 .1 .1 .1 .0 ∙ at .loop .inv .3,
-      λ first fits begun. advances (a .s) (now (a .file)) (at .loop .i) _ _ first _ _ _ _ (omega arith) (at .loop .inv .4 first fits begun) (rw event at (step .advance .ensures)),
+      λ first fits begun. advances (a .s) (now (a .file)) (at .loop .i) _ _ first _ _ _ _ (omega arith)
+          (at .loop .inv .4 first fits begun) advanced,
     )
 
 holders-requires : tie.Need-holders-requires Inv-loop μ-loop
 holders-requires c κs =
-    let start = c .before .before .before .before .before .before .before .before .before .before .before .before .before .before .before .before .before in
-    let a = start .args in
-    tasks-few (now (a .file)) (a .s) (a .count) (start .pre .0)
+    let at = start (c .before .before) in
+    tasks-few (now (at .args .file)) (at .args .s) (at .args .count) (at .pre .0)
 
 put-end-requires : tie.Need-put-end-requires Inv-loop μ-loop
 put-end-requires c κs =
@@ -82,9 +89,11 @@ put-end-requires c κs =
 returns : tie.Need-returns Inv-loop μ-loop
 returns c =
     let at = c .before .before .before .before .before .before .before in
-    let a = c .before .before .before .before .before .before .before .before .before .before .before .before .before .before .before .before .before .before .before .before .before .before .args in
+    let a = start at .args in
     let all : at .loop .i ≡ a .count = omega arith in
-    rw (sym all) (ends (a .s) (now (a .file)) (at .loop .i) (at .loop .standing) _ (now (a .room)) (at .loop .room) _ _ _ (omega (arith, c .before .before .before .before .before .before .before .before .before .before .before .before .before .before .before .before .before .before .before .before .before .before .pre .2)) (here at) (c .before .before .before .before .holders .ensures .0) (c .before .before .put-end .ensures))
+    let holders = c .before .before .before .before .holders .ensures .0 in
+    rw (sym all) (ends (a .s) (now (a .file)) (at .loop .i) (at .loop .standing) _ (now (a .room)) (at .loop .room) _ _ _
+    (omega (arith, start at .pre .2)) (here at) holders (c .before .before .put-end .ensures))
 
 pub run-spec : {M : Type 1} → statement M
 run-spec =

@@ -9,7 +9,8 @@ returns : tie.Need-returns
 returns c = rw (lt-ltb _ _ (c .if1 .taken))
 
 returns-2 : tie.Need-returns-2
-returns-2 c = rw (le-ltb _ _ (c .before .before .if1 .left), sym (c .before .in-range .ensures) ∙ c .if2 .taken) (add-one _)
+returns-2 c =
+    rw (le-ltb _ _ (c .before .before .if1 .left), sym (c .before .in-range .ensures) ∙ c .if2 .taken) (add-one _)
 
 returns-3 : tie.Need-returns-3
 returns-3 c = rw (le-ltb _ _ (c .before .before .if1 .left), sym (c .before .in-range .ensures) ∙ c .if2 .left)
