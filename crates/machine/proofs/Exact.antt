@@ -11,7 +11,7 @@ use Rattle.machine.specs.{Calls.{Outcome, call, setup, turn}, Ranges.Wit
 use Rattle.machine.specs.Demands.{SetUp, memoryAfter, historyOf, Seeks, HoldsSome, allAccepted, NeedsBound}
 use Rattle.machine.specs.declared.{Settings.Settings, Event.Event}
 use Rattle.machine.proofs.{Worst.worst, Limits.{limits-tested, width-most}, Fresh.setup-within}
-use Rattle.machine.proofs.{Outcomes.{Called, taken, refused, called}, Histories.always-fine}
+use Rattle.machine.proofs.{Outcomes.{Called, taken, refused, called}, Histories.always-in-order}
 use Rattle.machine.proofs.{Leads.{EndsWith, last-accepted, used-written}, WorstTurns.{worst-turns, worst-last}}
 use Rattle.machine.proofs.WorstRun.{worst-run}
 use Rattle.counting.proofs.Tested.{passes}
@@ -36,7 +36,7 @@ seeks-before-last s lent ok events last ends accepted e =
     subst (λ (all : List Event). T (allAccepted (historyOf s lent all)))
     (ends .split ∙ ap (λ (z : Event). ends .before ++ (z ∷ [])) e) accepted in
     taken-turn-seeks s m 0 (call s (turn 0) m)
-    (called s (setup-within s lent ok) (turn 0) m (always-fine s lent ok (ends .before) .good .sound))
+    (called s (setup-within s lent ok) (turn 0) m (always-in-order s lent ok (ends .before) .invariants .fit))
     (last-accepted s (ends .before) (turn 0) (setup s lent .memory) split)
 
 pub worst-needs-bound : (s : Settings) (lent : Memory) → SetUp s lent → NeedsBound s lent (worst s)

@@ -48,8 +48,8 @@ module _ (s : Settings) (fair : WithinLimits s) where
   rules = rulesOf s fair
 
   -- J0 to J3, where at most m are out at once
-  pub record Good (m : ℕ) (memory : Memory) : Type 0 where
-    pub sound : Fit s memory
+  pub record Invariants (m : ℕ) (memory : Memory) : Type 0 where
+    pub fit : Fit s memory
     pub invariant : Invariant rules m (gridOf s memory)
 
   pub all-in-place : (memory : Memory) → Fit s memory → AllInPlace rules (gridOf s memory)
@@ -67,19 +67,19 @@ module _ (s : Settings) (fair : WithinLimits s) where
       (λ q _ t. reaches-out (stateOf memory q) (beyond-out (reachOf (gridOf s memory)) 0 0 q t .1))
 
   -- a call keeps them, as long as no more than m are out
-  pub good-kept : (m : ℕ) (event : Event) (memory : Memory) → Good m memory
+  pub invariants-kept : (m : ℕ) (event : Event) (memory : Memory) → Invariants m memory
       → outOf s (call s event memory .memory .records) ≤ m
-      → Good m (call s event memory .memory)
-  good-kept m event memory g = go (call s event memory) (called s fair event memory (g .sound))
+      → Invariants m (call s event memory .memory)
+  invariants-kept m event memory g = go (call s event memory) (called s fair event memory (g .fit))
     where
       go : (outcome : Outcome) → Called s event memory outcome → outOf s (outcome .memory .records) ≤ m
-          → Good m (outcome .memory)
+          → Invariants m (outcome .memory)
       go outcome (refused why) few = g
       go outcome (taken o) few = record {
-        sound = accept-fits s fair (event .kind) (event .task .0) memory (g .sound) (o .known) (o .moment);
+        fit = accept-fits s fair (event .kind) (event .task .0) memory (g .fit) (o .known) (o .moment);
         invariant = invariant-kept rules m (gridOf s memory) (gridOf s (ruled s event memory .memory))
-            (accepted-step s fair memory (g .sound) (event .task .0) (o .known) (event .kind) (o .lived) (o .moment))
-            (all-in-place memory (g .sound)) (le-trans (cover-out (ruled s event memory .memory)) few) (g .invariant);
+            (accepted-step s fair memory (g .fit) (event .task .0) (o .known) (event .kind) (o .lived) (o .moment))
+            (all-in-place memory (g .fit)) (le-trans (cover-out (ruled s event memory .memory)) few) (g .invariant);
       }
 
   -- ---- never more than k out
@@ -139,14 +139,14 @@ module _ (s : Settings) (fair : WithinLimits s) where
   -- ---- every memory of a history
 
   -- J0 to J3 with m = k, and at most k out
-  pub record Fine (memory : Memory) : Type 0 where
-    pub good : Good (s .k) memory
+  pub record InOrder (memory : Memory) : Type 0 where
+    pub invariants : Invariants (s .k) memory
     pub few : outOf s (memory .records) ≤ s .k
 
-  pub fine-kept : (event : Event) (memory : Memory) → Fine memory → Fine (call s event memory .memory)
-  fine-kept event memory f =
-      let few = call-few event memory (f .good .sound) (f .few) in
-      record { good = good-kept (s .k) event memory (f .good) few; few = few }
+  pub in-order-kept : (event : Event) (memory : Memory) → InOrder memory → InOrder (call s event memory .memory)
+  in-order-kept event memory f =
+      let few = call-few event memory (f .invariants .fit) (f .few) in
+      record { invariants = invariants-kept (s .k) event memory (f .invariants) few; few = few }
 
   -- ---- setup
 
@@ -171,17 +171,17 @@ module _ (s : Settings) (lent : Memory) (ok : SetUp s lent) where
       (λ i l. fill-at (marksNeeded s) i 0 0 (lent .marks) l))
 
   -- whatever the bound m
-  pub fresh-good : (m : ℕ) → Good s (setup-within s lent ok) m (setup s lent .memory)
-  fresh-good m = record {
-    sound = fresh-fit s lent ok;
+  pub fresh-invariants : (m : ℕ) → Invariants s (setup-within s lent ok) m (setup s lent .memory)
+  fresh-invariants m = record {
+    fit = fresh-fit s lent ok;
     invariant = idle-invariant s (setup-within s lent ok) m (gridOf s (setup s lent .memory))
         (λ q l. ap (standOf (width s)) (fresh-idle s lent ok q l)) fresh-unmarked;
   }
 
-  pub fresh-fine : Fine s (setup-within s lent ok) (setup s lent .memory)
-  fresh-fine = record { good = fresh-good (s .k); few = rw (fresh-none-out s lent ok) zero-le }
+  pub fresh-in-order : InOrder s (setup-within s lent ok) (setup s lent .memory)
+  fresh-in-order = record { invariants = fresh-invariants (s .k); few = rw (fresh-none-out s lent ok) zero-le }
 
-  pub always-fine : (events : List Event) → Fine s (setup-within s lent ok) (memoryAfter s lent events)
-  always-fine events =
-      run-keeps s (Fine s (setup-within s lent ok)) (fine-kept s (setup-within s lent ok)) events
-      (setup s lent .memory) fresh-fine
+  pub always-in-order : (events : List Event) → InOrder s (setup-within s lent ok) (memoryAfter s lent events)
+  always-in-order events =
+      run-keeps s (InOrder s (setup-within s lent ok)) (in-order-kept s (setup-within s lent ok)) events
+      (setup s lent .memory) fresh-in-order

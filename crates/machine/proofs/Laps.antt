@@ -11,7 +11,7 @@ use Rattle.machine.specs.declared.{Settings.Settings, Point.Point, State
 use Rattle.machine.specs.declared.{Kind.{Kind, the-variants.{Ask, Turn}}, Event.Event}
 use Rattle.machine.specs.Ranges.{WithinLimits}
 use Rattle.machine.proofs.{Worst.each, Steps.{caller-after, others-after}}
-use Rattle.machine.proofs.{Outcomes.{accepted-answer, may-accepted}, Histories.{Fine, fine-kept}}
+use Rattle.machine.proofs.{Outcomes.{accepted-answer, may-accepted}, Histories.{InOrder, in-order-kept}}
 use Rattle.machine.proofs.{Leads.{Leads, leads-nowhere, leads-more, leads-append}, Passed.May}
 
 module _ (s : Settings) (fair : WithinLimits s) where
@@ -19,7 +19,7 @@ module _ (s : Settings) (fair : WithinLimits s) where
   pub record Took (kind : Kind) (p : ℕ) (state : State) (m : Memory) : Type 0 where
     pub does : call s (eventOf kind p) m ≡ accept s kind p state m
     pub says : T (isAccepted (accept s kind p state m .answer))
-    pub fine : Fine s fair (accept s kind p state m .memory)
+    pub fine : InOrder s fair (accept s kind p state m .memory)
     pub its : stateOf (accept s kind p state m .memory) p ≡ nextState s kind p state m
     pub others : (q : ℕ) → (q ≡ p → ⊥) → stateOf (accept s kind p state m .memory) q ≡ stateOf m q
 
@@ -27,7 +27,7 @@ module _ (s : Settings) (fair : WithinLimits s) where
   pub record Lap (Keeps : Memory → Type 0) (p : ℕ) (state : State) (events : List Event) (m : Memory) : Type 0 where
     pub last : Memory
     pub leads : Leads s events m last
-    pub fine : Fine s fair last
+    pub fine : InOrder s fair last
     pub keeps : Keeps last
     pub its : stateOf last p ≡ state
     pub others : (q : ℕ) → (q ≡ p → ⊥) → stateOf last q ≡ stateOf m q
@@ -36,7 +36,7 @@ module _ (s : Settings) (fair : WithinLimits s) where
   pub record Laps (Keeps : Memory → Type 0) (n : ℕ) (state : State) (events : List Event) (m : Memory) : Type 0 where
     pub last : Memory
     pub leads : Leads s events m last
-    pub fine : Fine s fair last
+    pub fine : InOrder s fair last
     pub keeps : Keeps last
     pub theirs : (q : ℕ) → q < n → stateOf last q ≡ state
     pub others : (q : ℕ) → n ≤ q → stateOf last q ≡ stateOf m q
@@ -44,28 +44,28 @@ module _ (s : Settings) (fair : WithinLimits s) where
 module _ {s : Settings} {fair : WithinLimits s} where
   -- ---- one call
 
-  took : (kind : Kind) (p : ℕ) (state : State) (m : Memory) → Fine s fair m → stateOf m p ≡ state
+  took : (kind : Kind) (p : ℕ) (state : State) (m : Memory) → InOrder s fair m → stateOf m p ≡ state
       → May s (eventOf kind p) m
       → Took s fair kind p state m
   took kind p state m f e o =
       let does : call s (eventOf kind p) m ≡ accept s kind p state m =
-      may-accepted s fair (eventOf kind p) m (f .good .sound) o ∙ ap (λ (z : State). accept s kind p z m) e in
+      may-accepted s fair (eventOf kind p) m (f .invariants .fit) o ∙ ap (λ (z : State). accept s kind p z m) e in
       record {
         does = does;
         says = subst (λ (z : State). T (isAccepted (accept s kind p z m .answer))) e
             (rw (accepted-answer s (eventOf kind p) m) tt);
-        fine = rw (ap (λ (o : Outcome). o .memory) does) at (fine-kept s fair (eventOf kind p) m f);
-        its = caller-after s fair m (f .good .sound) p (o .known) kind state;
-        others = others-after s fair m (f .good .sound) p (o .known) kind state;
+        fine = rw (ap (λ (o : Outcome). o .memory) does) at (in-order-kept s fair (eventOf kind p) m f);
+        its = caller-after s fair m (f .invariants .fit) p (o .known) kind state;
+        others = others-after s fair m (f .invariants .fit) p (o .known) kind state;
       }
 
-  pub turn-took : (p r c : ℕ) (point : Point) (m : Memory) → Fine s fair m → p < s .n → stateOf m p ≡ Seeking r c point
+  pub turn-took : (p r c : ℕ) (point : Point) (m : Memory) → InOrder s fair m → p < s .n → stateOf m p ≡ Seeking r c point
       → Took s fair Turn p (Seeking r c point) m
   turn-took p r c point m f l e =
       took Turn p (Seeking r c point) m f e
       (record { known = l; lived = refl; moment = ap (λ (z : State). not (isSeeking z)) e; room = refl })
 
-  pub ask-took : (p : ℕ) (m : Memory) → Fine s fair m → p < s .n → outOf s (m .records) < s .k → stateOf m p ≡ Idle
+  pub ask-took : (p : ℕ) (m : Memory) → InOrder s fair m → p < s .n → outOf s (m .records) < s .k → stateOf m p ≡ Idle
       → Took s fair Ask p Idle m
   ask-took p m f l few e =
       took Ask p Idle m f e
@@ -78,7 +78,7 @@ module _ {s : Settings} {fair : WithinLimits s} where
 
   -- ---- one task, and then the next
 
-  pub lap-over : {Keeps : Memory → Type 0} {p : ℕ} {state : State} (m : Memory) → Fine s fair m → Keeps m
+  pub lap-over : {Keeps : Memory → Type 0} {p : ℕ} {state : State} (m : Memory) → InOrder s fair m → Keeps m
       → stateOf m p ≡ state
       → Lap s fair Keeps p state [] m
   lap-over m f k e = record { last = m; leads = leads-nowhere; fine = f; keeps = k; its = e; others = λ q d. refl }
@@ -98,9 +98,9 @@ module _ {s : Settings} {fair : WithinLimits s} where
 
   -- each of the tasks n - 1 .. 0 in turn
   pub laps : (Keeps : ℕ → Memory → Type 0) (from to : State) (does : ℕ → List Event) (n : ℕ)
-      → ((p : ℕ) (m : Memory) → p < n → Fine s fair m → Keeps (suc p) m → stateOf m p ≡ from
+      → ((p : ℕ) (m : Memory) → p < n → InOrder s fair m → Keeps (suc p) m → stateOf m p ≡ from
       → Lap s fair (Keeps p) p to (does p) m)
-      → (m : Memory) → Fine s fair m → Keeps n m → ((q : ℕ) → q < n → stateOf m q ≡ from)
+      → (m : Memory) → InOrder s fair m → Keeps n m → ((q : ℕ) → q < n → stateOf m q ≡ from)
       → Laps s fair (Keeps 0) n to (each does n) m
   laps Keeps from to does zero lap m f k all =
       record {

@@ -6,7 +6,7 @@ use native.Mathlib.Omega.{arith}
 use Rattle.machine.specs.{Memory.{Memory, stateOf}, Demands.{SetUp, memoryAfter}}
 use Rattle.machine.specs.declared.{Settings.Settings, State.the-variants.Holding, Event.Event}
 use Rattle.machine.specs.Ranges.{WithinLimits}
-use Rattle.machine.proofs.{Fresh.setup-within, Seen.gridOf, Histories.{rules, all-in-place, Fine, always-fine}}
+use Rattle.machine.proofs.{Fresh.setup-within, Seen.gridOf, Histories.{rules, all-in-place, InOrder, always-in-order}}
 use Rattle.grid.proofs.{Stands.{InPlace, at, holding}, Invariant.{AllInPlace, one-holder}}
 
 -- ---- where a task holds
@@ -15,11 +15,11 @@ module _ (s : Settings) (lent : Memory) (events : List Event) (ok : SetUp s lent
   abbrev fair : WithinLimits s
   fair = setup-within s lent ok
 
-  fine : Fine s fair (memoryAfter s lent events)
-  fine = always-fine s lent ok events
+  fine : InOrder s fair (memoryAfter s lent events)
+  fine = always-in-order s lent ok events
 
   placed : AllInPlace (rules s fair) (gridOf s (memoryAfter s lent events))
-  placed = all-in-place s fair (memoryAfter s lent events) (fine .good .sound)
+  placed = all-in-place s fair (memoryAfter s lent events) (fine .invariants .fit)
 
   pub held-place : (p r c : ℕ) → p < s .n → stateOf (memoryAfter s lent events) p ≡ Holding r c → r + c < s .k
   held-place p r c l e =
@@ -30,5 +30,5 @@ module _ (s : Settings) (lent : Memory) (events : List Event) (ok : SetUp s lent
       → stateOf (memoryAfter s lent events) q ≡ Holding r c
       → (q ≡ p → ⊥) → ⊥
   one-place p q r c lp lq hp hq =
-      one-holder (rules s fair) (gridOf s (memoryAfter s lent events)) placed (fine .good .invariant) p q r c lp lq
+      one-holder (rules s fair) (gridOf s (memoryAfter s lent events)) placed (fine .invariants .invariant) p q r c lp lq
       (rw hp (refl, refl)) (rw hq (refl, refl))

@@ -7,7 +7,7 @@ use Rattle.machine.specs.{Records.isSeeking, Memory.{Memory, stateOf}, A
 use Rattle.machine.specs.Demands.{SetUp, memoryAfter, Seeks}
 use Rattle.machine.specs.declared.{Settings.Settings, State.{State, the-variants.{Idle, Seeking, Holding}}}
 use Rattle.machine.specs.declared.Event.{Event}
-use Rattle.machine.proofs.{Fresh.setup-within, Outcomes.{accepted-answer, may-accepted}, Histories.always-fine}
+use Rattle.machine.proofs.{Fresh.setup-within, Outcomes.{accepted-answer, may-accepted}, Histories.always-in-order}
 use Rattle.machine.proofs.Passed.{May}
 
 pub seeker-may : (s : Settings) (m : Memory) (p : ℕ) → p < s .n → T (isSeeking (stateOf m p)) → May s (turn p) m
@@ -23,6 +23,6 @@ pub seeker-accepted : (s : Settings) (lent : Memory) (events : List Event) → S
     → T (isAccepted (call s (turn p) (memoryAfter s lent events) .answer))
 seeker-accepted s lent events ok p l t =
     let m = memoryAfter s lent events in
-    let taken = may-accepted s (setup-within s lent ok) (turn p) m (always-fine s lent ok events .good .sound)
+    let taken = may-accepted s (setup-within s lent ok) (turn p) m (always-in-order s lent ok events .invariants .fit)
     (seeker-may s m p l t) in
     rw (taken, accepted-answer s (turn p) m) tt

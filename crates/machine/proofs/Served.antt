@@ -18,7 +18,7 @@ use Rattle.machine.specs.Ranges.{WithinLimits}
 use Rattle.machine.proofs.{Fresh.{setup-within, fresh-idle}, Seen.{rulesOf, standOf}}
 use Rattle.machine.proofs.Steps.{arrives, in-place, caller-after, others-after, caller-moves}
 use Rattle.machine.proofs.Outcomes.{Called, taken, refused, accepted-answer, called, may-accepted}
-use Rattle.machine.proofs.Histories.{rules, all-in-place, Fine, fine-kept, fresh-fine, always-fine, run-append}
+use Rattle.machine.proofs.Histories.{rules, all-in-place, InOrder, in-order-kept, fresh-in-order, always-in-order, run-append}
 use Rattle.machine.proofs.Histories.{history-append}
 use Rattle.machine.proofs.{Seekers.seeker-may, Passed.Fit, Refusing.ruled}
 use Rattle.grid.proofs.Stands.{Rules, Stand, idle, at, InPlace}
@@ -99,13 +99,13 @@ module _ (s : Settings) (fair : WithinLimits s) (p : ℕ) (m : Memory) (sound : 
             others-after s fair m sound (event .task .0) (o .known) (event .kind) (stateOf m (event .task .0)) p d,
           ) h
 
-turns-within : (s : Settings) (fair : WithinLimits s) (p : ℕ) (events : List Event) (m : Memory) (t : ℕ) → Fine s fair m
+turns-within : (s : Settings) (fair : WithinLimits s) (p : ℕ) (events : List Event) (m : Memory) (t : ℕ) → InOrder s fair m
     → Within (rules s fair) (standOf (width s) (stateOf m p)) t
     → Within (rules s fair) (standOf (width s) (stateOf (run s events m) p)) (turnsOf p (history s events m) t)
 turns-within s fair p [] m t f h = h
 turns-within s fair p (event ∷ events) m t f h =
-    turns-within s fair p events (call s event m .memory) _ (fine-kept s fair event m f)
-    (call-within s fair p m (f .good .sound) t event h)
+    turns-within s fair p events (call s event m .memory) _ (in-order-kept s fair event m f)
+    (call-within s fair p m (f .invariants .fit) t event h)
 
 -- ---- every history
 
@@ -119,12 +119,12 @@ module _ (s : Settings) (lent : Memory) (ok : SetUp s lent) (p : ℕ) (l : p < s
   fair = setup-within s lent ok
 
   sound : (events : List Event) → Fit s (memoryAfter s lent events)
-  sound events = always-fine s lent ok events .good .sound
+  sound events = always-in-order s lent ok events .invariants .fit
 
   pub always-within : (events : List Event)
       → Within (rules s fair) (standOf (width s) (stateOf (memoryAfter s lent events) p)) (used s lent events p)
   always-within events =
-      turns-within s fair p events (setup s lent .memory) 0 (fresh-fine s lent ok) (rw (fresh-idle s lent ok p l) tt)
+      turns-within s fair p events (setup s lent .memory) 0 (fresh-in-order s lent ok) (rw (fresh-idle s lent ok p l) tt)
 
   pub seeking-used : (events : List Event) → Seeks (memoryAfter s lent events) p → used s lent events p < bound s
   seeking-used events seeks =

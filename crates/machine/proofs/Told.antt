@@ -20,7 +20,7 @@ use Rattle.machine.specs.declared.{Kind.{Kind, the-variants.{Ask, Turn, 
 use Rattle.machine.specs.Ranges.{WithinLimits}
 use Rattle.machine.proofs.{Fresh.{setup-within, fresh-idle}, Telling.tells, Steps.{caller-after, others-after}}
 use Rattle.machine.proofs.Outcomes.{Called, taken, refused, accepted-answer, called, may-accepted}
-use Rattle.machine.proofs.{Histories.{Fine, fine-kept, fresh-fine, always-fine}, Passed.{Fit, May}}
+use Rattle.machine.proofs.{Histories.{InOrder, in-order-kept, fresh-in-order, always-in-order}, Passed.{Fit, May}}
 
 -- ---- an accepted call
 
@@ -106,17 +106,17 @@ module _ (s : Settings) (fair : WithinLimits s) (p : ℕ) (m : Memory) (sound : 
           ) h
 
 last-heard : (s : Settings) (fair : WithinLimits s) (p : ℕ) (events : List Event) (m : Memory) (before : Answer)
-    → Fine s fair m
+    → InOrder s fair m
     → TrueOf s (stateOf m p) before → TrueOf s (stateOf (run s events m) p) (lastAnswer p (history s events m) before)
 last-heard s fair p [] m before f h = h
 last-heard s fair p (event ∷ events) m before f h =
     last-heard s fair p events (call s event m .memory) (heard p event (call s event m) before)
-    (fine-kept s fair event m f)
-    (heard-kept s fair p m (f .good .sound) before event h)
+    (in-order-kept s fair event m f)
+    (heard-kept s fair p m (f .invariants .fit) before event h)
 
 pub last-answer-true : LastAnswerTrue
 last-answer-true s lent events ok p l =
-    last-heard s (setup-within s lent ok) p events (setup s lent .memory) Answer.Done (fresh-fine s lent ok)
+    last-heard s (setup-within s lent ok) p events (setup s lent .memory) Answer.Done (fresh-in-order s lent ok)
     (rw (fresh-idle s lent ok p l) tt)
 
 -- ---- the name that is freed
@@ -140,7 +140,7 @@ told s lent events ok p r c l e =
     rw e at (last-answer-true s lent events ok p l) in
     let freed : s .mode ≡ 1 → call s (release p) m .answer ≡ Answer.Freed named = λ one.
     rw (
-      may-accepted s fair (release p) m (always-fine s lent ok events .good .sound)
+      may-accepted s fair (release p) m (always-in-order s lent ok events .invariants .fit)
           (holder-may s m p r c l one e),
       e,
     ) in

@@ -17,7 +17,7 @@ use Rattle.machine.proofs.{Worst.{worstRow, worstRows, worst}, Limits.w
 use Rattle.machine.proofs.{Fresh.{setup-within, fresh-idle, fresh-none-out}, Turning.reads-other}
 use Rattle.machine.proofs.Arriving.{leave-at-once, leave-clearing}
 use Rattle.machine.proofs.Seen.{own-below, gridOf, x-on-block, mark-on-block, x-put, mark-put}
-use Rattle.machine.proofs.Histories.{Fine, fresh-fine, fresh-unmarked, one-more-out}
+use Rattle.machine.proofs.Histories.{InOrder, fresh-in-order, fresh-unmarked, one-more-out}
 use Rattle.machine.proofs.Leads.{Leads, leads-more, leads-append, leads-nowhere}
 use Rattle.machine.proofs.Laps.{Took, turn-took, ask-took, Lap, lap-over, lap-more, laps}
 
@@ -38,7 +38,7 @@ module _ (s : Settings) (fair : WithinLimits s) where
   abbrev scanned : ℕ → ℕ → State
   scanned r h = cond (eqb h (width s)) (Seeking r 0 WriteMark) (Seeking r 0 (Scan h))
 
-  scan-lap : (r p : ℕ) → r + 2 ≤ s .k → p < s .n → (left h : ℕ) → h + left ≡ width s → (m : Memory) → Fine s fair m
+  scan-lap : (r p : ℕ) → r + 2 ≤ s .k → p < s .n → (left h : ℕ) → h + left ≡ width s → (m : Memory) → InOrder s fair m
       → Unmarked r m
       → stateOf m p ≡ scanned r h → Lap s fair (Unmarked r) p (Seeking r 0 WriteMark) (turns left p) m
   scan-lap r p b l zero h e m f clean is = lap-over m f clean (is ∙ rw (eq-eqb h (width s) (omega arith)))
@@ -50,7 +50,7 @@ module _ (s : Settings) (fair : WithinLimits s) where
       lap-more here
       (scan-lap r p b l left (h + 1) (omega arith) _ (here .fine) clean (here .its ∙ next))
 
-  first-lap : (r p : ℕ) → r + 2 ≤ s .k → p < s .n → (m : Memory) → Fine s fair m → Unmarked r m
+  first-lap : (r p : ℕ) → r + 2 ≤ s .k → p < s .n → (m : Memory) → InOrder s fair m → Unmarked r m
       → stateOf m p ≡ Seeking r 0 WriteX
       → Lap s fair (Unmarked r) p (Seeking r 0 WriteMark) (turns (suc (width s)) p) m
   first-lap r p b l m f clean is =
@@ -63,16 +63,16 @@ module _ (s : Settings) (fair : WithinLimits s) where
   -- ---- its other turns there: it writes its mark, reads another's X and, long-lived, clears
 
   -- a mark of row r is none of the rows below
-  below-unmarked : (r p value : ℕ) (point : Point) (m : Memory) → Fine s fair m → r + 2 ≤ s .k → p < s .n
+  below-unmarked : (r p value : ℕ) (point : Point) (m : Memory) → InOrder s fair m → r + 2 ≤ s .k → p < s .n
       → accept s Turn p (Seeking r 0 point) m .memory .marks ≡ set (m .marks)
       (markIndex s (blockNumber s r 0) (own s p)) value
       → Unmarked (r + 1) m → Unmarked (r + 1) (accept s Turn p (Seeking r 0 point) m .memory)
   below-unmarked r p value point m f b l e clean i place h =
       mark-put s fair m (accept s Turn p (Seeking r 0 point) m .memory) r 0 (own s p) value (omega arith)
       (own-below s fair p l)
-      (f .good .sound .long .marks) e .there i 0 place (λ z _ _. omega arith) ∙ clean i place h
+      (f .invariants .fit .long .marks) e .there i 0 place (λ z _ _. omega arith) ∙ clean i place h
 
-  second-lap : (r n p : ℕ) → r + 2 ≤ s .k → p < n → p < s .n → (m : Memory) → Fine s fair m → Lost r n m
+  second-lap : (r n p : ℕ) → r + 2 ≤ s .k → p < n → p < s .n → (m : Memory) → InOrder s fair m → Lost r n m
       → stateOf m p ≡ Seeking r 0 WriteMark
       → Lap s fair (Lost r n) p (arrive s (r + 1) 0) (turns (s .mode + 2) p) m
   second-lap r n p b h l m f lost is = go (fair .modes)
@@ -131,11 +131,11 @@ module _ (s : Settings) (fair : WithinLimits s) where
   record RowDone (n r : ℕ) (m : Memory) : Type 0 where
     last : Memory
     leads : Leads s (worstRow s n) m last
-    fine : Fine s fair last
+    fine : InOrder s fair last
     keeps : Unmarked (r + 1) last
     theirs : (q : ℕ) → q < n → stateOf last q ≡ arrive s (r + 1) 0
 
-  row-done : (n r : ℕ) → r + 2 ≤ s .k → suc n < s .n → (m : Memory) → Fine s fair m → Unmarked r m
+  row-done : (n r : ℕ) → r + 2 ≤ s .k → suc n < s .n → (m : Memory) → InOrder s fair m → Unmarked r m
       → ((q : ℕ) → q < suc (suc n) → stateOf m q ≡ Seeking r 0 WriteX) → RowDone (suc n) r m
   row-done n r b l m f clean all =
       let first = laps (λ _. Unmarked r) (Seeking r 0 WriteX) (Seeking r 0 WriteMark) (turns (suc (width s))) (suc n)
@@ -145,7 +145,7 @@ module _ (s : Settings) (fair : WithinLimits s) where
       (first .others (suc n) (le-refl (suc n)) ∙ all (suc n) (le-refl (suc (suc n)))) in
       let lost : Lost r (suc n) m₁ = (
         λ i place h. first .keeps i place (omega arith),
-        x-put s fair (first .last) m₁ r 0 (suc n + 1) (omega arith) (first .fine .good .sound .long .xs) refl .here,
+        x-put s fair (first .last) m₁ r 0 (suc n + 1) (omega arith) (first .fine .invariants .fit .long .xs) refl .here,
       ) in
       let second = laps (λ _. Lost r (suc n)) (Seeking r 0 WriteMark) (arrive s (r + 1) 0) (turns (s .mode + 2)) (suc n)
       (λ p m₂ h. second-lap r (suc n) p b h (omega arith) m₂) m₁ (stays .fine) lost
@@ -160,7 +160,7 @@ module _ (s : Settings) (fair : WithinLimits s) where
         theirs = second .theirs;
       }
 
-  go-down : (n r : ℕ) → r + n + 1 ≡ s .k → (m : Memory) → Fine s fair m → Unmarked r m
+  go-down : (n r : ℕ) → r + n + 1 ≡ s .k → (m : Memory) → InOrder s fair m → Unmarked r m
       → ((q : ℕ) → q < suc n → stateOf m q ≡ arrive s r 0)
       → Foot (worstRows s n) m
   go-down zero r e m f clean all =
@@ -186,11 +186,11 @@ module _ (s : Settings) (fair : WithinLimits s) where
   abbrev Room : ℕ → Memory → Type 0
   Room n m = (outOf s (m .records) + n ≤ s .k) × Unmarked 0 m
 
-  ask-lap : (p : ℕ) (m : Memory) → p < s .n → Fine s fair m → Room (suc p) m → stateOf m p ≡ Idle
+  ask-lap : (p : ℕ) (m : Memory) → p < s .n → InOrder s fair m → Room (suc p) m → stateOf m p ≡ Idle
       → Lap s fair (Room p) p (arrive s 0 0) (ask p ∷ []) m
   ask-lap p m l f room is =
       let here = ask-took p m f l (omega arith) is in
-      let more = one-more-out s fair Ask p m (f .good .sound) l in
+      let more = one-more-out s fair Ask p m (f .invariants .fit) l in
       lap-more here (lap-over _ (here .fine) (omega arith, room .1) (here .its))
 
 pub worst-run : (s : Settings) (lent : Memory) (ok : SetUp s lent)
@@ -200,7 +200,7 @@ worst-run s lent ok =
     let bounds = fair in
     let asks = laps (Room s fair) Idle (arrive s 0 0) (λ p. ask p ∷ []) (s .k)
     (λ p m h. ask-lap s fair p m (omega (arith, bounds .k-within)))
-    (setup s lent .memory) (fresh-fine s lent ok)
+    (setup s lent .memory) (fresh-in-order s lent ok)
     (omega (arith, fresh-none-out s lent ok), λ i place _. fresh-unmarked s lent ok i 0 place)
     (λ q h. fresh-idle s lent ok q (omega (arith, bounds .k-within))) in
     let down = go-down s fair (s .k - 1) 0 (omega (arith, bounds .k-least)) (asks .last) (asks .fine) (asks .keeps .1)

@@ -15,7 +15,7 @@ use Rattle.machine.specs.Ranges.{WithinLimits}
 use Rattle.machine.proofs.Fresh.{setup-within, fresh-idle, fresh-none-out}
 use Rattle.machine.proofs.Turning.{scan-marked, scan-done, reads-own}
 use Rattle.machine.proofs.Arriving.{arrive-edge, arrive-block, leave-at-once}
-use Rattle.machine.proofs.{Seen.{x-on-block, mark-on-block, x-put, mark-put}, Histories.{fresh-fine, fresh-unmarked}}
+use Rattle.machine.proofs.{Seen.{x-on-block, mark-on-block, x-put, mark-put}, Histories.{fresh-in-order, fresh-unmarked}}
 use Rattle.machine.proofs.Laps.{Took, turn-took, ask-took}
 use Rattle.grid.specs.Triangle.{half, placeNumber}
 use Rattle.printed.specs.Edges.{answersIn, acquires, servedAt, OneTimePair}
@@ -90,7 +90,7 @@ module _ (s : Settings) (lent : Memory) (ok : SetUp s lent) (one-time : s .mode 
   own-first = rw one-time
 
   asks : Took s fair Ask p Idle m₀
-  asks = ask-took p m₀ (fresh-fine s lent ok) lp (omega (arith, fresh-none-out s lent ok)) (fresh-idle s lent ok p lp)
+  asks = ask-took p m₀ (fresh-in-order s lent ok) lp (omega (arith, fresh-none-out s lent ok)) (fresh-idle s lent ok p lp)
 
   writes : Took s fair Turn p start m₁
   writes = turn-took p 0 0 WriteX m₁ (asks .fine) lp (asks .its ∙ at-start)
@@ -115,7 +115,7 @@ module _ (s : Settings) (lent : Memory) (ok : SetUp s lent) (one-time : s .mode 
   -- X is still what the task wrote
   own-x : nextState s Turn p (Seeking 0 0 ReadX) m₄ ≡ Holding 0 0
   own-x =
-      let put = x-put s fair m₁ m₂ 0 0 (p + 1) (omega arith) (asks .fine .good .sound .long .xs) refl in
+      let put = x-put s fair m₁ m₂ 0 0 (p + 1) (omega arith) (asks .fine .invariants .fit .long .xs) refl in
       sym (reads-own s p 0 0 (getD (m₄ .xs) (blockNumber s 0 0) 0)
       (sym (x-on-block s (m₂ .xs) 0 0 (omega arith)) ∙ put .here))
 
@@ -143,7 +143,7 @@ module _ (s : Settings) (lent : Memory) (ok : SetUp s lent) (one-time : s .mode 
   marked : nextState s Turn q (Seeking 0 0 (Scan 0)) m₇ ≡ Holding 0 1
   marked =
       let put = mark-put s fair m₃ m₄ 0 0 0 1 (omega arith) (omega (arith, one-wide))
-      (scans .fine .good .sound .long .marks)
+      (scans .fine .invariants .fit .long .marks)
       (ap (λ (place : ℕ). set (m₃ .marks) (markIndex s (blockNumber s 0 0) place) 1) own-first) in
       let e = sym (mark-on-block s (m₄ .marks) 0 0 0 (omega arith) (omega (arith, one-wide))) ∙ put .here in
       sym (arrive-edge s 0 1 (omega arith) ∙ leave-at-once s 0 0 Right one-time
