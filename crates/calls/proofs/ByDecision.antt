@@ -1,21 +1,17 @@
 -- A call is what its decision says: the record decided is put back in its place, and the registers are those decided.
 -- Likewise setup, whose records are filled as far as was decided.
-use mathlib.Core.Path.{_≡_, refl, sym, ap}
-use mathlib.Core.List.{List, [], _∷_}
+use mathlib.Core.{Path.{_≡_, refl, sym, ap}, List.{List, [], _∷_}}
 use Prim.Native.Nat.{ℕ, zero, suc, _≤_}
 use native.Mathlib.Omega.{arith}
-use lib.ListN.{length, getD, set}
-use lib.Seq.{set-getD}
-use Rattle.machine.specs.Records.{idle, recordInRange}
-use Rattle.machine.specs.Memory.{Memory, viewOf, fill}
-use Rattle.machine.specs.Turn.{access, value, store}
-use Rattle.machine.specs.Calls.{Outcome, refuseOr, accept, call, cleared, setup, eventOf}
-use Rattle.machine.specs.Lent.{lent, leaves}
-use Rattle.machine.specs.declared.{Settings.Settings, Record.Record, Access.Access, Kind.Kind, Verdict.Verdict}
-use Rattle.machine.specs.declared.Answer.{Answer}
-use Rattle.machine.specs.declared.Access.the-variants.{NoAccess, XRead, XWritten, MarkRead, MarkWritten}
+use lib.{ListN.{length, getD, set}, Seq.set-getD}
+use Rattle.machine.specs.{Records.{idle, recordInRange}, Memory.{Memory, viewOf, fill}, Turn.{access, value, store}}
+use Rattle.machine.specs.{Calls.{Outcome, refuseOr, accept, call, cleared, setup, eventOf}, Lent.{lent, leaves}}
+use Rattle.machine.specs.declared.{Settings.Settings, Record.Record}
+use Rattle.machine.specs.declared.Access.{Access, the-variants.{NoAccess, XRead, XWritten, MarkRead, MarkWritten}}
+use Rattle.machine.specs.declared.{Kind.Kind, Verdict.Verdict, Answer.Answer}
 use Rattle.counting.proofs.Searching.{none-bad-all}
-use Rattle.rules.specs.Decision.{Sees, seenVerdict, Decision, decisionBy, decision, seenSetupVerdict, Preparation, preparationBy, preparation}
+use Rattle.rules.specs.Decision.{Sees, seenVerdict, Decision, decisionBy, decision, seenSetupVerdict, Preparation}
+use Rattle.rules.specs.Decision.{preparationBy, preparation}
 use Rattle.rules.proofs.Rows.{lent-passes}
 use Rattle.rows.specs.Rows as rows
 
@@ -71,7 +67,8 @@ module _ (s : Settings) (kind : Kind) (p : ℕ) (records : List Record) (m : Mem
 cleared-fill : (n : ℕ) (records : List Record) → n ≤ length records → rows.cleared n records ≡ fill n idle records
 cleared-fill zero records l = refl
 cleared-fill (suc n) [] l = absurd (let z : ⊥ = omega arith in z)
-cleared-fill (suc n) (first ∷ records) l = ap (λ (rest : List Record). idle ∷ rest) (cleared-fill n records (omega arith))
+cleared-fill (suc n) (first ∷ records) l =
+    ap (λ (rest : List Record). idle ∷ rest) (cleared-fill n records (omega arith))
 
 abbrev pub preparedOutcome : List Record → Preparation → Outcome
 preparedOutcome records d = leaves (d .answer) (beside (rows.cleared (d .fresh) records) (d .memory))
@@ -84,4 +81,5 @@ by-preparation s records m = go (seenSetupVerdict s (viewOf s records 0) m) refl
         → preparedOutcome records (preparationBy v s m)
         ≡ refuseOr v (beside records m) (leaves Answer.Done (cleared s (beside records m)))
     go (Verdict.Refused why) e = refl
-    go Verdict.Accepted e = rw (cleared-fill (s .n) records (lent-passes s (viewOf s records 0) m e .long .records-long))
+    go Verdict.Accepted e = rw (cleared-fill (s .n) records
+        (lent-passes s (viewOf s records 0) m e .long .records-long))

@@ -1,15 +1,10 @@
 -- The contract of a call on records by value determines what it returns, records and answer, and the memory afterwards,
 -- row by row.
-use mathlib.Core.Path.{_≡_}
-use mathlib.Core.List.{List}
+use mathlib.Core.{Path._≡_, List.List}
 use Prim.Native.Nat.{ℕ}
-use Rattle.machine.specs.Memory.{Memory}
-use Rattle.machine.specs.Lent.{lent, leaves}
-use Rattle.machine.specs.declared.Settings.{Settings}
-use Rattle.machine.proofs.Lent.{leaves-determined}
-use Rattle.calls.specs.Made.{outcomeOf}
-use Rattle.calls.specs.declared.Call.{Call}
-use Rattle.calls.specs.declared.Made.{Made}
+use Rattle.machine.specs.{Memory.Memory, Lent.{lent, leaves}, declared.Settings.Settings}
+use Rattle.machine.proofs.calls.Lent.{leaves-determined}
+use Rattle.calls.specs.{Made.outcomeOf, declared.{Call.Call, Made.Made}}
 
 pub made-determined : (s : Settings) (call : Call) (before : Memory) (one other : Made) (xs xs′ marks marks′ : List ℕ)
     → leaves (one .answer) (lent (one .records) xs marks) ≡ outcomeOf s call before

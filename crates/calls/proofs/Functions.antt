@@ -1,17 +1,13 @@
 -- How each function takes its parameters: what its own walk and its callers use.
-use denote.Array.{Array}
-use denote.Builtin.{u8, u32}
-use denote.Exit.{yes}
+use denote.{Array.Array, Builtin.{u8, u32}, Exit.yes}
+use Rattle.walks.proofs.{Data.{Data, struct, enum, array}, Params.{value, changed}, Walk.Function}
+use Rattle.rows.proofs.Functions.{R, record-data, settings-data, task-data, view-data}
 use Rattle.machine.proofs.Answer as A₁
 use Rattle.machine.proofs.Answer.Laws as A₁′
 use Rattle.machine.proofs.Kind as K
 use Rattle.machine.proofs.Kind.Laws as K′
 use Rattle.machine.proofs.Event as E
 use Rattle.machine.proofs.Event.Laws as E′
-use Rattle.walks.proofs.Data.{Data, struct, enum, array}
-use Rattle.walks.proofs.Params.{value, changed}
-use Rattle.walks.proofs.Walk.{Function}
-use Rattle.rows.proofs.Functions.{R, record-data, settings-data, task-data, view-data}
 use Rattle.rules.proofs.Decided as D
 use Rattle.rules.proofs.Decided.Laws as D′
 use Rattle.rules.proofs.Prepared as P
@@ -47,7 +43,13 @@ prepared-data = struct P.the-type P′.the-laws P′.the-plain P′.the-copy
 
 abbrev pub decide-fn : Function decide.ended
 decide-fn = record {
-  params = (value settings-data yes, (value view-data yes, (changed u32 0 tt, (changed u8 1 tt, (value event-data yes, tt)))));
+  params = (
+    value settings-data yes,
+    (
+      value view-data yes,
+      (changed u32 0 tt, (changed u8 1 tt, (value event-data yes, tt))),
+    ),
+  );
   result = λ _. decided-data;
   clauses = decide.clauses;
 }
@@ -63,14 +65,26 @@ decide-setup-fn = record {
 
 abbrev pub step-fn : Function step.ended
 step-fn = record {
-  params = (value settings-data yes, (changed R 0 tt, (changed u32 1 tt, (changed u8 2 tt, (value event-data yes, tt)))));
+  params = (
+    value settings-data yes,
+    (
+      changed R 0 tt,
+      (changed u32 1 tt, (changed u8 2 tt, (value event-data yes, tt))),
+    ),
+  );
   result = λ _. answer-data;
   clauses = step.clauses;
 }
 
 abbrev pub ask-fn : Function ask.ended
 ask-fn = record {
-  params = (value settings-data yes, (changed R 0 tt, (changed u32 1 tt, (changed u8 2 tt, (value task-data yes, tt)))));
+  params = (
+    value settings-data yes,
+    (
+      changed R 0 tt,
+      (changed u32 1 tt, (changed u8 2 tt, (value task-data yes, tt))),
+    ),
+  );
   result = λ _. answer-data;
   clauses = ask.clauses;
 }
@@ -99,7 +113,13 @@ records-data = array record-data 256
 
 abbrev pub step-of-fn : Function step-of.ended
 step-of-fn = record {
-  params = (value settings-data yes, (value records-data yes, (changed u32 0 tt, (changed u8 1 tt, (value event-data yes, tt)))));
+  params = (
+    value settings-data yes,
+    (
+      value records-data yes,
+      (changed u32 0 tt, (changed u8 1 tt, (value event-data yes, tt))),
+    ),
+  );
   result = λ _. made-data;
   clauses = step-of.clauses;
 }

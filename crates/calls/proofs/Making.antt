@@ -1,10 +1,7 @@
 -- A call by its enum is setup, or the call of its event.
 use mathlib.Core.Path.{_≡_}
-use Rattle.machine.specs.Memory.{Memory}
-use Rattle.machine.specs.Calls.{Outcome, setup, call}
-use Rattle.machine.specs.declared.{Settings.Settings, Event.Event}
-use Rattle.calls.specs.Made.{outcomeOf}
-use Rattle.calls.specs.declared.Call.{Call}
+use Rattle.machine.specs.{Memory.Memory, Calls.{Outcome, setup, call}, declared.{Settings.Settings, Event.Event}}
+use Rattle.calls.specs.{Made.outcomeOf, declared.Call.Call}
 
 module _ (s : Settings) (called : Call) (m : Memory) (left : Outcome) where
   pub setup-made : called ≡ Call.Setup → left ≡ setup s m → left ≡ outcomeOf s called m

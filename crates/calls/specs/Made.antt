@@ -1,7 +1,5 @@
 -- What is called, as an outcome of the definitions.
-use Rattle.machine.specs.Memory.{Memory}
-use Rattle.machine.specs.Calls.{Outcome, setup, call}
-use Rattle.machine.specs.declared.Settings.{Settings}
+use Rattle.machine.specs.{Memory.Memory, Calls.{Outcome, setup, call}, declared.Settings.Settings}
 use Rattle.calls.specs.declared.Call.{Call}
 
 -- setup, or a call of one task

@@ -7,7 +7,7 @@ use Rattle.machine.specs.{Settings.permitted, Refusals.first}
 use Rattle.machine.specs.declared.{Settings.Settings, Refusal.{Refusal, the-variants.NoEvent}}
 use Rattle.machine.specs.declared.{Verdict.{Verdict, the-variants.{Accepted, Refused}}, Opening.Opening}
 use Rattle.machine.specs.declared.Reading.{Reading}
-use Rattle.machine.proofs.Deciding.{no-case}
+use Rattle.machine.proofs.refusals.Deciding.{no-case}
 use Rattle.counting.specs.Counting.{anyBelow}
 use Rattle.file.specs.File.{mostEvents, fileLength, lettersRight, versionOf, settingsOf, countOf, codeBad}
 use Rattle.file.specs.File.{eventAt, headerCases, openVerdict, openingBy, opening, Read, readBy, reading}

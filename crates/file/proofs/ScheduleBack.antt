@@ -7,7 +7,7 @@ use borrow.Author.Tests.{ltb-false, le-ltb, not-false}
 use Rattle.machine.specs.{Settings.permitted, Refusals.first, Answers.Said}
 use Rattle.machine.specs.declared.{Settings.Settings, Verdict.{Verdict, the-variants.Accepted}, Opening.Opening}
 use Rattle.machine.specs.declared.Reading.{Reading}
-use Rattle.machine.proofs.{Limits.limits, Deciding.no-case}
+use Rattle.machine.proofs.refusals.{Limits.limits, Deciding.no-case}
 use Rattle.counting.{specs.Counting.anyBelow, proofs.Some.{none-below, each-none}}
 use Rattle.file.specs.File.{mostEvents, writeCases, eventNumber, readingSaid, writingSaid, fileLength, settingsOf}
 use Rattle.file.specs.File.{countOf, codeAt, eventAt, codeBad, headerCases, opening, Read, reading, headerBytes}

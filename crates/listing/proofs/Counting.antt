@@ -1,26 +1,15 @@
 -- Laws of what a run counts: the holders, and each task's turns.
-use mathlib.Core.Path.{_≡_, refl, sym, ap, _∙_}
-use mathlib.Core.Bool.{Bool, true, false, cond}
-use mathlib.Core.List.{List}
+use mathlib.Core.{Path.{_≡_, refl, sym, ap, _∙_}, Bool.{Bool, true, false, cond}, List.List}
 use Prim.Native.Nat.{ℕ, zero, suc, _+_, _≤_, _<_}
-use native.Mathlib.Numerals.{add-one}
-use native.Mathlib.Decide.{decLe, ℕ-discrete}
-use native.Mathlib.Omega.{arith}
+use native.Mathlib.{Numerals.add-one, Decide.{decLe, ℕ-discrete}, Omega.arith}
 use lib.ListN.{length, getD, set, replicate, length-replicate, getD-replicate, List·getD-eq-default}
 use lib.Seq.{set-out, getD-set-same, getD-set-other}
-use Rattle.machine.specs.Records.{idle, isHolding}
+use Rattle.machine.specs.{Records.{idle, isHolding}, Answers.isAccepted, Calls.call, History.counted}
+use Rattle.machine.specs.declared.{Settings.Settings, Record.Record, Kind.{Kind, the-variants.{Ask, Turn, Release}}}
+use Rattle.machine.specs.declared.{Event.Event, Answer.Answer}
 use Rattle.counting.specs.Counting.{tick, count}
-use Rattle.machine.specs.Answers.{isAccepted}
-use Rattle.machine.specs.Calls.{call}
-use Rattle.machine.specs.History.{counted}
 use Rattle.file.specs.File.{eventAt}
 use Rattle.printed.specs.Listing.{turnsAfter, progress}
-use Rattle.machine.specs.declared.Settings.{Settings}
-use Rattle.machine.specs.declared.Record.{Record}
-use Rattle.machine.specs.declared.Kind.{Kind}
-use Rattle.machine.specs.declared.Kind.the-variants.{Ask, Turn, Release}
-use Rattle.machine.specs.declared.Event.{Event}
-use Rattle.machine.specs.declared.Answer.{Answer}
 
 -- ---- holders
 
@@ -32,7 +21,8 @@ pub none-holding : (records : List Record) → holding records 0 ≡ 0
 unfolding count
 none-holding records = refl
 
-pub holding-more : (records : List Record) (i : ℕ) → holding records (i + 1) ≡ tick (isHolding (getD records i idle .state)) (holding records i)
+pub holding-more : (records : List Record) (i : ℕ)
+    → holding records (i + 1) ≡ tick (isHolding (getD records i idle .state)) (holding records i)
 unfolding count
 holding-more records i = rw (add-one i)
 
@@ -55,7 +45,8 @@ module _ (event : Event) (answer : Answer) (turns : List ℕ) where
 
   -- a task past the row has no count
   pub turns-past : isAccepted answer ≡ true → length turns ≤ event .task .0 → turns ≡ turnsAfter event answer turns
-  turns-past e l = sym (set-out turns (event .task .0) (counted (event .kind) (getD turns (event .task .0) 0)) l) ∙ turns-counted e
+  turns-past e l = sym (set-out turns (event .task .0) (counted (event .kind) (getD turns (event .task .0) 0)) l)
+      ∙ turns-counted e
 
 -- nobody has taken a turn
 no-turns : (n p : ℕ) → _≡_ {A = ℕ} (getD (replicate n 0) p 0) 0
@@ -63,7 +54,8 @@ no-turns n p = go (decLe (suc p) n)
   where
     go : Dec (p < n) → _≡_ {A = ℕ} (getD (replicate n 0) p 0) 0
     go (yes l) = getD-replicate n p 0 0 l
-    go (no l) = let long = length-replicate {A = ℕ} n 0 in List·getD-eq-default {A = ℕ} (replicate n 0) 0 {n = p} (omega arith)
+    go (no l) = let long = length-replicate {A = ℕ} n 0 in
+        List·getD-eq-default {A = ℕ} (replicate n 0) 0 {n = p} (omega arith)
 
 counted-at-most : (kind : Kind) (turns n : ℕ) → turns ≤ n → counted kind turns ≤ suc n
 counted-at-most Ask turns n l = omega arith
@@ -71,13 +63,15 @@ counted-at-most Turn turns n l = omega arith
 counted-at-most Release turns n l = omega arith
 
 -- one element more than n was, at the most
-set-at-most : (turns : List ℕ) (i a n : ℕ) → a ≤ suc n → ((p : ℕ) → getD turns p 0 ≤ n) → (p : ℕ) → getD (set turns i a) p 0 ≤ suc n
+set-at-most : (turns : List ℕ) (i a n : ℕ) → a ≤ suc n → ((p : ℕ) → getD turns p 0 ≤ n) → (p : ℕ)
+    → getD (set turns i a) p 0 ≤ suc n
 set-at-most turns i a n small few p = go (ℕ-discrete p i) (decLe (suc i) (length turns))
   where
     go : Dec (p ≡ i) → Dec (i < length turns) → getD (set turns i a) p 0 ≤ suc n
     go (no other) d = let h = few p in let e = getD-set-other turns i p a 0 other in omega arith
     go (yes same) (yes l) = let e = getD-set-same turns i a 0 l in rw same (omega arith)
-    go (yes same) (no l) = let h = few p in let e = ap (λ (t : List ℕ). getD t p 0) (set-out turns i a (omega arith)) in omega arith
+    go (yes same) (no l) = let h = few p in let e =
+        ap (λ (t : List ℕ). getD t p 0) (set-out turns i a (omega arith)) in omega arith
 
 turns-after-at-most : (event : Event) (answer : Answer) (turns : List ℕ) (n : ℕ) → ((p : ℕ) → getD turns p 0 ≤ n)
     → (p : ℕ) → getD (turnsAfter event answer turns) p 0 ≤ suc n
@@ -86,10 +80,12 @@ turns-after-at-most event answer turns n few p = go (isAccepted answer) refl
     go : (b : Bool) → isAccepted answer ≡ b → getD (turnsAfter event answer turns) p 0 ≤ suc n
     go true e =
         let t = event .task .0 in
-        rw (sym (turns-counted event answer turns e)) (set-at-most turns t _ n (counted-at-most (event .kind) (getD turns t 0) n (few t)) few p)
+        rw (sym (turns-counted event answer turns e))
+        (set-at-most turns t _ n (counted-at-most (event .kind) (getD turns t 0) n (few t)) few p)
     go false e = let h = few p in rw (sym (turns-refused event answer turns e)) (omega arith)
 
 -- after n events nobody has taken more than n turns
 pub turns-few : (s : Settings) (file : List ℕ) (n p : ℕ) → getD (progress s file n .turns) p 0 ≤ n
 turns-few s file zero p = let h = no-turns 256 p in omega arith
-turns-few s file (suc n) p = turns-after-at-most (eventAt file n) (call s (eventAt file n) (progress s file n .memory) .answer) (progress s file n .turns) n (turns-few s file n) p
+turns-few s file (suc n) p = turns-after-at-most (eventAt file n)
+    (call s (eventAt file n) (progress s file n .memory) .answer) (progress s file n .turns) n (turns-few s file n) p

@@ -1,17 +1,12 @@
 -- What an opened file says of itself.
-use mathlib.Core.Path.{_≡_, sym, ap, _∙_}
-use mathlib.Core.List.{List}
+use mathlib.Core.{Path.{_≡_, sym, ap}, List.List}
 use Prim.Native.Nat.{ℕ, _≤_, _<_}
 use native.Mathlib.Omega.{arith}
 use lib.Dec.{T}
 use Rattle.machine.specs.Settings.{permitted}
+use Rattle.machine.specs.declared.{Settings.Settings, Event.Event, Refusal.Refusal, Opening.Opening, Reading.Reading}
+use Rattle.machine.proofs.refusals.Limits.{limits}
 use Rattle.file.specs.File.{eventAt, codeBad, countOf, opening, reading}
-use Rattle.machine.specs.declared.Settings.{Settings}
-use Rattle.machine.specs.declared.Event.{Event}
-use Rattle.machine.specs.declared.Refusal.{Refusal}
-use Rattle.machine.specs.declared.Opening.{Opening}
-use Rattle.machine.specs.declared.Reading.{Reading}
-use Rattle.machine.proofs.Limits.{limits}
 use Rattle.file.proofs.Headers.{header-accepted, file-accepted, reading-given}
 use Rattle.counting.proofs.Some.{none-below}
 
@@ -37,7 +32,8 @@ module _ (file : List ℕ) (s : Settings) (count : ℕ) (opened : opening file �
       let accepted = file-accepted file s count opened in
       let same = accepted .counted in
       let below : i < countOf file = omega arith in
-      ap (λ r. r .answer) (reading-given file (accepted .passes) i below (none-below (codeBad file) (countOf file) (accepted .codes) i below))
+      ap (λ r. r .answer) (reading-given file (accepted .passes) i below
+      (none-below (codeBad file) (countOf file) (accepted .codes) i below))
 
 -- what a reading says, it says of one event, and it is no refusal
 pub given-is : (a b : Event) → Reading.Given a ≡ Reading.Given b → a ≡ b

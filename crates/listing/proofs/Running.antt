@@ -1,27 +1,18 @@
 -- A run goes as the definition's progress: at its beginning, by one event more, and at its end.
-use mathlib.Core.Path.{_≡_, refl, sym, ap, _∙_}
-use mathlib.Core.List.{List, _++_}
+use mathlib.Core.{Path.{_≡_, refl, sym, ap, _∙_}, List.{List, _++_}}
 use Prim.Native.Nat.{ℕ, _+_, _*_, _≤_, _<_, max}
-use native.Mathlib.Numerals.{add-one}
-use native.Mathlib.Omega.{arith}
+use native.Mathlib.{Numerals.add-one, Omega.arith}
 use lib.ListN.{length, getD, replicate}
-use Rattle.machine.specs.Records.{idle}
-use Rattle.machine.specs.Memory.{Memory, largest}
-use Rattle.machine.specs.Calls.{Outcome, call, setup}
+use Rattle.machine.specs.{Records.idle, Memory.{Memory, largest}, Calls.{Outcome, call, setup}}
+use Rattle.machine.specs.{declared.{Settings.Settings, Event.Event}, Lent.lent}
 use Rattle.file.specs.File.{eventAt}
-use Rattle.printed.specs.Listing.{Progress, gridLine, eventLine, endLine, turnsAfter, completed, holdersOf}
-use Rattle.printed.specs.Listing.{advanceBy, advance, progress, ended}
-use Rattle.machine.specs.declared.Settings.{Settings}
-use Rattle.machine.specs.declared.Event.{Event}
-use Rattle.machine.specs.Lent.{lent}
-use Rattle.calls.specs.Made.{outcomeOf}
-use Rattle.calls.specs.declared.Call.{Call}
+use Rattle.printed.specs.Listing.{Progress, gridLine, eventLine, endLine, turnsAfter, completed, holdersOf, advanceBy}
+use Rattle.printed.specs.Listing.{advance, progress, ended}
+use Rattle.calls.specs.{Made.outcomeOf, declared.Call.Call}
 use Rattle.text.specs.Put.{Puts}
-use Rattle.listing.specs.declared.Standing.{Standing}
-use Rattle.listing.specs.Writes.{Writes}
+use Rattle.listing.specs.{declared.Standing.Standing, Writes.Writes}
 use Rattle.listing.specs.Standing.{progressOf, Begun, advanced, Advanced}
-use Rattle.listing.proofs.Writing.{next, then, wider}
-use Rattle.listing.proofs.Counting.{turns-few}
+use Rattle.listing.proofs.{Writing.{next, then, wider}, Counting.turns-few}
 
 setup-outcome : (s : Settings) (m : Memory) → outcomeOf s Call.Setup m ≡ setup s m
 unfolding outcomeOf
@@ -44,7 +35,8 @@ module _ (s : Settings) (position : ℕ) (event : Event) (at : Standing) (m : Me
       → to .turns ≡ turnsAfter event (left .answer) (at .turns)
       → to .peak ≡ max (at .peak) (holdersOf s (left .memory .records))
       → to .most
-      ≡ max (at .most) (completed (left .answer) (getD (turnsAfter event (left .answer) (at .turns)) (event .task .0) 0))
+      ≡ max (at .most) (completed (left .answer)
+      (getD (turnsAfter event (left .answer) (at .turns)) (event .task .0) 0))
       → Writes 31 room (at .at) (eventLine position event (left .answer)) (to .at) room′
       → Advanced s position event at m room to (left .memory) room′
   stands-advanced calls turns peak most line =
@@ -56,14 +48,21 @@ pub fresh-rows : (xs marks : List ℕ) → xs ≡ replicate 120 0 → marks ≡ 
 fresh-rows xs marks e e′ = λ k. lent (replicate 256 idle) (e k) (e′ k)
 
 -- the code stands where the definition is after i events, and the lines so far stand at the start of the room
-pub record Stands (s : Settings) (file : List ℕ) (i : ℕ) (at : Standing) (m : Memory) (first room : List ℕ) : Type 0 where
+pub record Stands (s : Settings) (file : List ℕ) (i : ℕ) (at : Standing) (m : Memory)
+    (first room : List ℕ) : Type 0 where
   pub lines : List ℕ
   pub stands : progressOf at m lines ≡ progress s file i
   pub printed : Writes (23 + 31 * i) first 0 lines (at .at) room
 
 -- lines before those of a progress
 abbrev after : List ℕ → Progress → Progress
-after lines p = record { memory = p .memory; turns = p .turns; peak = p .peak; most = p .most; lines = lines ++ p .lines }
+after lines p = record {
+  memory = p .memory;
+  turns = p .turns;
+  peak = p .peak;
+  most = p .most;
+  lines = lines ++ p .lines;
+}
 
 module _ (s : Settings) (file : List ℕ) where
   pub begins : (m : Memory) (room : List ℕ) (to : Standing) (m′ : Memory) (room′ : List ℕ) → m ≡ largest
@@ -73,7 +72,8 @@ module _ (s : Settings) (file : List ℕ) where
       ap (λ (o : Outcome). o .memory) (setup-outcome s m ∙ ap (setup s) fresh) in
       record { lines = gridLine s; stands = begun .stands ∙ rw memory; printed = begun .line }
 
-  pub advances : (i : ℕ) (at : Standing) (m : Memory) (first room : List ℕ) (to : Standing) (m′ : Memory) (room′ : List ℕ)
+  pub advances : (i : ℕ) (at : Standing) (m : Memory) (first room : List ℕ) (to : Standing) (m′ : Memory)
+      (room′ : List ℕ)
       → 23 + 31 * i + 31 ≤ length first → Stands s file i at m first room
       → Advanced s i (eventAt file i) at m room to m′ room′
       → Stands s file (i + 1) to m′ first room′
@@ -86,7 +86,8 @@ module _ (s : Settings) (file : List ℕ) where
             ∙ ap (λ (o : Outcome). advanceBy s i event o here) (call-outcome s event m)
             ∙ ap (advance s i event) (before .stands)
             ∙ ap (progress s file) (sym (add-one i));
-        printed = wider (then (before .printed) 31 (omega arith) (λ more. step .line)) (23 + 31 * (i + 1)) (omega arith);
+        printed = wider (then (before .printed) 31 (omega arith) (λ more. step .line)) (23 + 31 * (i + 1))
+            (omega arith);
       }
 
   pub ends : (i : ℕ) (at : Standing) (m : Memory) (first room : List ℕ) (holders to : ℕ) (room′ : List ℕ)

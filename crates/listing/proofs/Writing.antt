@@ -1,14 +1,10 @@
 -- Laws of writing one piece of a line after another.
-use mathlib.Core.Path.{_≡_, refl, sym, ap, _∙_}
-use mathlib.Core.List.{List, _++_}
+use mathlib.Core.{Path.{_≡_, ap, _∙_}, List.{List, _++_}}
 use Prim.Native.Nat.{ℕ, _+_, _≤_, _<_, _^_}
-use native.Mathlib.Nat.{le-refl}
-use native.Mathlib.Omega.{arith}
+use native.Mathlib.{Nat.le-refl, Omega.arith}
 use lib.ListN.{length, length-append}
-use Rattle.text.specs.Decimal.{decimal}
-use Rattle.text.specs.Put.{put, Puts}
-use Rattle.text.proofs.Putting.{length-put, put-append}
-use Rattle.text.proofs.Digits.{digits-at-most}
+use Rattle.text.specs.{Decimal.decimal, Put.{put, Puts}}
+use Rattle.text.proofs.{Putting.{length-put, put-append}, Digits.digits-at-most}
 use Rattle.listing.specs.Writes.{Writes}
 
 -- a 16-bit number has at most five digits
@@ -16,10 +12,12 @@ pub five-digits : (n : ℕ) → n < 2 ^ 16 → length (decimal n) ≤ 5
 five-digits n l = digits-at-most 4 n (omega arith)
 
 -- a text as it stands
-pub whole : {room text after : List ℕ} {at to : ℕ} → Puts room at text to after → Writes (length text) room at text to after
+pub whole : {room text after : List ℕ} {at to : ℕ} → Puts room at text to after
+    → Writes (length text) room at text to after
 whole {text = text} p = record { puts = p; short = le-refl (length text) }
 
-module _ {a : ℕ} {room x after : List ℕ} {at mid : ℕ} (w : Writes a room at x mid after) (b : ℕ) (fits : at + (a + b) ≤ length room) where
+module _ {a : ℕ} {room x after : List ℕ} {at mid : ℕ} (w : Writes a room at x mid after) (b : ℕ)
+    (fits : at + (a + b) ≤ length room) where
   same-long : length after ≡ length room
   same-long =
       let p = w .puts in
@@ -48,18 +46,22 @@ module _ {a : ℕ} {room x after : List ℕ} {at mid : ℕ} (w : Writes a room a
       record {
         puts = record {
           past = omega arith;
-          room-after = q .room-after ∙ ap (λ (l : List ℕ). put l mid y) (p .room-after) ∙ put-append room at x y mid past (omega arith);
+          room-after = q .room-after ∙ ap (λ (l : List ℕ). put l mid y) (p .room-after)
+              ∙ put-append room at x y mid past (omega arith);
         };
         short = omega arith;
       }
 
   -- one piece, and then the rest in what is left of the room
-  pub then : {y end : List ℕ} {to : ℕ} → (mid + b ≤ length after → Writes b after mid y to end) → Writes (a + b) room at (x ++ y) to end
+  pub then : {y end : List ℕ} {to : ℕ} → (mid + b ≤ length after → Writes b after mid y to end)
+      → Writes (a + b) room at (x ++ y) to end
   then rest = both (rest next)
 
 -- a bound on the text, and a larger one
-pub within : {room text after : List ℕ} {at to : ℕ} → Puts room at text to after → (most : ℕ) → length text ≤ most → Writes most room at text to after
+pub within : {room text after : List ℕ} {at to : ℕ} → Puts room at text to after → (most : ℕ) → length text ≤ most
+    → Writes most room at text to after
 within p most l = record { puts = p; short = l }
 
-pub wider : {a : ℕ} {room text after : List ℕ} {at to : ℕ} → Writes a room at text to after → (most : ℕ) → a ≤ most → Writes most room at text to after
+pub wider : {a : ℕ} {room text after : List ℕ} {at to : ℕ} → Writes a room at text to after → (most : ℕ) → a ≤ most
+    → Writes most room at text to after
 wider w most l = let short = w .short in record { puts = w .puts; short = omega arith }

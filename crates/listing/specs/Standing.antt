@@ -1,16 +1,11 @@
 -- What the two steps of a run leave: its beginning, and one event more.
-use mathlib.Core.Path.{_≡_}
-use mathlib.Core.List.{List, []}
+use mathlib.Core.{Path._≡_, List.{List, []}}
 use Prim.Native.Nat.{ℕ}
 use lib.ListN.{replicate}
 use Rattle.printed.specs.Listing.{Progress, gridLine, advanceBy}
-use Rattle.machine.specs.declared.Settings.{Settings}
-use Rattle.machine.specs.declared.Event.{Event}
-use Rattle.machine.specs.Memory.{Memory}
-use Rattle.calls.specs.Made.{outcomeOf}
-use Rattle.calls.specs.declared.Call.{Call}
-use Rattle.listing.specs.declared.Standing.{Standing}
-use Rattle.listing.specs.Writes.{Writes}
+use Rattle.machine.specs.{declared.{Settings.Settings, Event.Event}, Memory.Memory}
+use Rattle.calls.specs.{Made.outcomeOf, declared.Call.Call}
+use Rattle.listing.specs.{declared.Standing.Standing, Writes.Writes}
 
 -- where the code stands, on this memory and with these lines printed, as the progress of a run
 abbrev pub progressOf : Standing → Memory → List ℕ → Progress
@@ -32,7 +27,8 @@ begun s memory = record {
   lines = gridLine s;
 }
 
-pub record Begun (s : Settings) (m : Memory) (room : List ℕ) (to : Standing) (m′ : Memory) (room′ : List ℕ) : Type 0 where
+pub record Begun (s : Settings) (m : Memory) (room : List ℕ) (to : Standing) (m′ : Memory)
+    (room′ : List ℕ) : Type 0 where
   pub stands : progressOf to m′ (gridLine s) ≡ begun s m
   pub line : Writes 23 room 0 (gridLine s) (to .at) room′
 

@@ -1,4 +1,4 @@
--- The definitions of the base, in the order of document 01. What a reader must believe.
+-- The definitions, in the order of document 01. What a reader must believe.
 pub mod Settings
 pub mod Places
 pub mod Records
@@ -10,12 +10,4 @@ pub mod Calls
 pub mod History
 pub mod Lent
 -- What is promised of them.
-pub mod Demands
-pub mod Numbers
-pub mod Ranges
-pub mod Refusing
-pub mod Rules
-pub mod OneAccess
-pub mod Surplus
-pub mod SettingUp
-pub mod Telling
+pub mod promises

@@ -1,10 +1,7 @@
 -- How each lender takes its parameters.
 use mir.Syntax.{w8}
-use denote.Builtin.{u8, u32}
-use denote.Exit.{yes}
-use Rattle.walks.proofs.Data.{number}
-use Rattle.walks.proofs.Params.{value, changed}
-use Rattle.walks.proofs.Walk.{Function}
+use denote.{Builtin.{u8, u32}, Exit.yes}
+use Rattle.walks.proofs.{Data.number, Params.{value, changed}, Walk.Function}
 use Rattle.rows.proofs.Functions.{settings-data, task-data}
 use Rattle.calls.proofs.Functions.{made-data, records-data}
 use Rattle.memories.proofs.setup_on as setup-on
@@ -14,14 +11,26 @@ use Rattle.memories.proofs.release_on as release-on
 
 abbrev pub setup-on-fn : Function setup-on.ended
 setup-on-fn = record {
-  params = (value settings-data yes, (value records-data yes, (value (number w8) yes, (changed u32 0 tt, (changed u8 1 tt, tt)))));
+  params = (
+    value settings-data yes,
+    (
+      value records-data yes,
+      (value (number w8) yes, (changed u32 0 tt, (changed u8 1 tt, tt))),
+    ),
+  );
   result = λ _. made-data;
   clauses = setup-on.clauses;
 }
 
 abbrev pub ask-on-fn : Function ask-on.ended
 ask-on-fn = record {
-  params = (value settings-data yes, (value records-data yes, (value (number w8) yes, (changed u32 0 tt, (changed u8 1 tt, (value task-data yes, tt))))));
+  params = (
+    value settings-data yes,
+    (
+      value records-data yes,
+      (value (number w8) yes, (changed u32 0 tt, (changed u8 1 tt, (value task-data yes, tt)))),
+    ),
+  );
   result = λ _. made-data;
   clauses = ask-on.clauses;
 }

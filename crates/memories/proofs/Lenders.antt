@@ -1,18 +1,14 @@
 -- The first records of an array of 256 and the others, and what a lender gives back.
-use mathlib.Core.Path.{_≡_, sym, ap, _∙_, subst}
-use mathlib.Core.List.{List, _++_}
+use mathlib.Core.{Path.{_≡_, sym, ap, _∙_, subst}, List.{List, _++_}}
 use Prim.Native.Nat.{ℕ, _<_, _^_}
 use native.Mathlib.Omega.{arith}
-use lib.ListN.{length, take, drop, take-append-drop}
-use lib.Seq.{length-take-le}
+use lib.{ListN.{length, take, drop, take-append-drop}, Seq.length-take-le}
 use mir.Syntax.{w8}
 use denote.Slice.{Room}
-use Rattle.machine.specs.Calls.{Outcome}
-use Rattle.machine.specs.declared.Record.{Record}
+use Rattle.machine.specs.{Calls.Outcome, declared.Record.Record}
 use Rattle.walks.proofs.Data.{Real, number}
 use Rattle.rows.proofs.Functions.{R}
-use Rattle.calls.specs.declared.Made.{Made}
-use Rattle.calls.proofs.Functions.{records-data}
+use Rattle.calls.{specs.declared.Made.Made, proofs.Functions.records-data}
 
 module _ (records : List Record) (n : ℕ) where
   abbrev pub front : List Record

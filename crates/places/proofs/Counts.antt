@@ -4,8 +4,8 @@ use Prim.Native.Nat.{ℕ, _+_, _*_, _≤_, _<_}
 use native.Mathlib.{Omega.arith, Nat.mul-le-mul}
 use mir.{Syntax.{w16, w64}, Val.Fits}
 use Rattle.machine.specs.{Settings.width, Places.blocks, Memory.{marksNeeded, markIndex}, declared.Settings.Settings}
-use Rattle.machine.specs.Ranges.{WithinLimits}
-use Rattle.machine.proofs.{Limits.width-most, Cells.earlier-block}
+use Rattle.machine.specs.promises.Ranges.{WithinLimits}
+use Rattle.machine.proofs.{refusals.Limits.width-most, calls.Cells.earlier-block}
 use Rattle.grid.{specs.Triangle.placeNumber, proofs.Triangle.half-most}
 
 -- products of the grid's numbers fit, also with one more such number added

@@ -8,12 +8,14 @@ use borrow.Author.Tests.{le-leb, lt-leb}
 use Rattle.grid.specs.Triangle.{half, placeNumber}
 use Rattle.counting.{specs.Counting.{count, firstBad}, proofs.Tested.misses}
 use Rattle.machine.specs.{Memory.Memory, Turn.arrive, Answers.isAccepted}
-use Rattle.machine.specs.{Calls.{call, setup, verdictOf, standing, ask, release}, Ranges.WithinLimits, Demands.SetUp}
+use Rattle.machine.specs.Calls.{call, setup, verdictOf, standing, ask, release}
+use Rattle.machine.specs.promises.{Ranges.WithinLimits, Demands.SetUp}
 use Rattle.machine.specs.declared.{Settings.Settings, State.{State, the-variants.{Idle, Seeking, Holding}}}
 use Rattle.machine.specs.declared.{Verdict.Verdict, Row.the-variants.{Records, Xs, Marks}}
-use Rattle.machine.proofs.{Limits.{zero-or-one, limits-tested, mode-most}, Passing.fits, Refusing.within}
-use Rattle.machine.proofs.{Exact.setup-takes-largest, Fresh.{setup-within, fresh-idle, fresh-none-out, fresh-fit}}
-use Rattle.machine.proofs.Passed.{Fit, fit-verdict}
+use Rattle.machine.proofs.refusals.{Limits.{zero-or-one, limits-tested, mode-most}, Passing.fits, Refusing.within}
+use Rattle.machine.proofs.refusals.Passed.{Fit, fit-verdict}
+use Rattle.machine.proofs.histories.Exact.{setup-takes-largest}
+use Rattle.machine.proofs.calls.Fresh.{setup-within, fresh-idle, fresh-none-out, fresh-fit}
 use Rattle.text.specs.Decimal.{decimal}
 use Rattle.printed.specs.Edges.{FiveNames, NoTurns, LoneTask, TheOtherTask, TheListing, TwoOut, LastIdentifier}
 use Rattle.printed.specs.Edges.{NoRelease, NoReleaseIdle, settings, Refuses, SetupsTaken, OutsideRefused, Edges}

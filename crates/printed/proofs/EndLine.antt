@@ -10,14 +10,13 @@ use lib.Seq.{getD-set-same, getD-set-other}
 use borrow.Author.Tests.{eqb-true, eqb-false, lt-ltb, le-ltb}
 use Rattle.machine.specs.{Records.isHolding, Memory.{Memory, stateOf, largest}, Answers.isAccepted}
 use Rattle.machine.specs.{Calls.{Outcome, nameAt, answerOf, call, setup}, History.{Answered, counted, turnsOf}}
-use Rattle.machine.specs.Demands.{memoryAfter, historyOf, used, HoldsSome, bound}
+use Rattle.machine.specs.promises.{Demands.{memoryAfter, historyOf, used, HoldsSome, bound}, OneAccess.AcceptedIn}
 use Rattle.machine.specs.declared.{Settings.Settings, Name.Name, State.{State, the-variants.{Idle, Seeking, Holding}}}
 use Rattle.machine.specs.declared.{Kind.{Kind, the-variants.{Ask, Turn, Release}}, Event.Event, Answer.Answer}
 use Rattle.machine.specs.declared.Opening.{Opening}
-use Rattle.machine.specs.OneAccess.{AcceptedIn}
-use Rattle.machine.proofs.{Passing.{passed, by-the-rules}, Effects.only-the-register-written-changes}
-use Rattle.machine.proofs.{Histories.{run-append, history-append}, Served.turns-append}
-use Rattle.machine.proofs.Demand3.{served-within, setup-takes}
+use Rattle.machine.proofs.{refusals.Passing.{passed, by-the-rules}, calls.Effects.only-the-register-written-changes}
+use Rattle.machine.proofs.bridge.Histories.{run-append, history-append}
+use Rattle.machine.proofs.histories.{Served.turns-append, Demand3.{served-within, setup-takes}}
 use Rattle.counting.{specs.Counting.{tick, count, anyBelow}, proofs.Searching.{count-same, count-none}}
 use Rattle.file.specs.File.{codeAt, taskAt, eventAt}
 use Rattle.printed.specs.Listing.{Progress, turnsAfter, completed, progress, listingBy, holdersOf}

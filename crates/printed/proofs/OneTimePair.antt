@@ -6,17 +6,18 @@ use native.Mathlib.Omega.{arith}
 use lib.{Dec.T, ListN.{getD, set}}
 use Rattle.machine.specs.{Settings.{width, own}, Places.{blockNumber, nameNumber}, Records.isOut}
 use Rattle.machine.specs.Memory.{Memory, markIndex, stateOf, outOf}
-use Rattle.machine.specs.{Calls.{Outcome, eventOf, answerOf, nextState, accept, setup}, History.history, Demands.SetUp}
+use Rattle.machine.specs.{Calls.{Outcome, eventOf, answerOf, nextState, accept, setup}, History.history}
+use Rattle.machine.specs.promises.{Demands.SetUp, Ranges.WithinLimits}
 use Rattle.machine.specs.declared.{Settings.Settings, Direction.the-variants.Right}
 use Rattle.machine.specs.declared.Point.the-variants.{WriteX, Scan, WriteMark, ReadX}
 use Rattle.machine.specs.declared.State.{State, the-variants.{Idle, Seeking, Holding}}
 use Rattle.machine.specs.declared.{Kind.{Kind, the-variants.{Ask, Turn}}, Event.Event, Answer.Answer}
-use Rattle.machine.specs.Ranges.{WithinLimits}
-use Rattle.machine.proofs.Fresh.{setup-within, fresh-idle, fresh-none-out}
-use Rattle.machine.proofs.Turning.{scan-marked, scan-done, reads-own}
-use Rattle.machine.proofs.Arriving.{arrive-edge, arrive-block, leave-at-once}
-use Rattle.machine.proofs.{Seen.{x-on-block, mark-on-block, x-put, mark-put}, Histories.{fresh-in-order, fresh-unmarked}}
-use Rattle.machine.proofs.Laps.{Took, turn-took, ask-took}
+use Rattle.machine.proofs.calls.Fresh.{setup-within, fresh-idle, fresh-none-out}
+use Rattle.machine.proofs.bridge.Turning.{scan-marked, scan-done, reads-own}
+use Rattle.machine.proofs.bridge.Arriving.{arrive-edge, arrive-block, leave-at-once}
+use Rattle.machine.proofs.bridge.Seen.{x-on-block, mark-on-block, x-put, mark-put}
+use Rattle.machine.proofs.bridge.Histories.{fresh-in-order, fresh-unmarked}
+use Rattle.machine.proofs.histories.Laps.{Took, turn-took, ask-took}
 use Rattle.grid.specs.Triangle.{half, placeNumber}
 use Rattle.printed.specs.Edges.{answersIn, acquires, servedAt, OneTimePair}
 use Rattle.counting.proofs.Counting.{count-but-one}

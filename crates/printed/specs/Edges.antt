@@ -7,8 +7,8 @@ use Prim.Native.Nat.{ℕ, _+_, _≤_, _<_}
 use lib.Dec.{T}
 use Rattle.machine.specs.{Places.nameNumber, Memory.{Memory, largest}, Answers.{said, isAccepted}}
 use Rattle.machine.specs.{Calls.{call, setup, ask, turn, release}, History.{Answered, turns}}
-use Rattle.machine.specs.Refusing.{NoneHolds, lentLines, rangeLines}
-use Rattle.machine.specs.Demands.{SetUp, memoryAfter, historyOf, used, bound}
+use Rattle.machine.specs.promises.Refusing.{NoneHolds, lentLines, rangeLines}
+use Rattle.machine.specs.promises.Demands.{SetUp, memoryAfter, historyOf, used, bound}
 use Rattle.machine.specs.declared.{Settings.Settings, Event.Event, Answer.{Answer, the-variants.{Seeks, Holds, Freed}}}
 use Rattle.text.specs.Decimal.{bytesOf}
 use Rattle.printed.specs.{EndLine.eventsOf, Listing.listing}

@@ -7,7 +7,7 @@ use lib.Dec.{T, leb→le}
 use denote.Enum.Declared.{tagOf}
 use Rattle.machine.specs.{Settings.permitted, Records.{isIdle, isSeeking, isHolding, pointInRange, stateInRange}}
 use Rattle.machine.specs.declared.{Settings.Settings, Point.Point, State.{State, the-variants.{Idle, Seeking, Holding}}}
-use Rattle.machine.proofs.{State.the-type, Limits.limits}
+use Rattle.machine.proofs.{State.the-type, refusals.Limits.limits}
 
 -- ---- what a state is not: where its tag is one of the other two
 

@@ -1,12 +1,9 @@
 -- A row whose first records are made idle, one after the other.
-use mathlib.Core.Path.{_≡_, refl, ap}
+use mathlib.Core.{Path.{_≡_, refl, ap}, List.{List, [], _∷_}}
 use Prim.Native.Nat.{ℕ, zero, suc, _≤_}
 use native.Mathlib.Nat.{not-suc-le-zero, le-of-suc-le-suc}
-use mathlib.Core.List.{List, [], _∷_}
 use lib.ListN.{length, set}
-use Rattle.machine.specs.Records.{idle}
-use Rattle.machine.specs.Memory.{fill}
-use Rattle.machine.specs.declared.Record.{Record}
+use Rattle.machine.specs.{Records.idle, Memory.fill, declared.Record.Record}
 use Rattle.rows.specs.Rows.{cleared}
 
 pub cleared-next : (n : ℕ) (row : List Record) → set (cleared n row) n idle ≡ cleared (suc n) row

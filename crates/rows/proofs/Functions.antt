@@ -1,7 +1,7 @@
 -- The types of a row as plain data, and each function as its own walk and its callers have it.
 use mir.Syntax.{w64}
-use denote.Exit.{yes}
-use denote.RattleType.{RattleType}
+use denote.{Exit.yes, RattleType.RattleType}
+use Rattle.walks.proofs.{Data.{Data, number, unit, struct}, Params.{value, shared, changed}, Walk.Function}
 use Rattle.machine.proofs.Record as T
 use Rattle.machine.proofs.Record.Laws as T′
 use Rattle.machine.proofs.Settings as S
@@ -10,9 +10,6 @@ use Rattle.machine.proofs.TaskId as I
 use Rattle.machine.proofs.TaskId.Laws as I′
 use Rattle.machine.proofs.View as V₁
 use Rattle.machine.proofs.View.Laws as V₁′
-use Rattle.walks.proofs.Data.{Data, number, unit, struct}
-use Rattle.walks.proofs.Params.{value, shared, changed}
-use Rattle.walks.proofs.Walk.{Function}
 use Rattle.rows.proofs.Seen as N
 use Rattle.rows.proofs.Seen.Laws as N′
 use Rattle.rows.proofs.count as count

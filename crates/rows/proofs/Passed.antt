@@ -1,15 +1,10 @@
 -- A pass over the records, one record after the other.
-use mathlib.Core.Path.{_≡_, refl}
+use mathlib.Core.{Path.{_≡_, refl}, Bool.{Bool, true, false}, List.List}
 use Prim.Native.Nat.{ℕ, zero, suc, _≤_}
 use native.Mathlib.Omega.{arith}
-use mathlib.Core.Bool.{Bool, true, false}
-use mathlib.Core.List.{List}
-use lib.Dec.{lit≤}
-use lib.ListN.{getD}
-use Rattle.machine.specs.Records.{idle, isOut, recordInRange}
+use lib.{Dec.lit≤, ListN.getD}
+use Rattle.machine.specs.{Records.{idle, isOut, recordInRange}, declared.{Settings.Settings, Record.Record}}
 use Rattle.counting.specs.Counting.{tick, firstOr, firstBad, count}
-use Rattle.machine.specs.declared.Settings.{Settings}
-use Rattle.machine.specs.declared.Record.{Record}
 use Rattle.rows.specs.Rows.{seenTo}
 
 tick-le : (b : Bool) (n i : ℕ) → n ≤ i → tick b n ≤ suc i

@@ -2,15 +2,16 @@
 use mathlib.Core.List.{List, [], _∷_}
 use Prim.Native.Nat.{ℕ, zero, suc}
 use lib.ListN.{getD}
-use Rattle.machine.specs.Records.{idle, isOut, recordInRange}
-use Rattle.counting.specs.Counting.{tick, firstOr, firstBad, count}
-use Rattle.machine.specs.declared.Settings.{Settings}
-use Rattle.machine.specs.declared.Record.{Record}
+use Rattle.machine.specs.{Records.{idle, isOut, recordInRange}, declared.{Settings.Settings, Record.Record}}
+use Rattle.counting.specs.Counting.{firstBad, count}
 use Rattle.rows.specs.declared.Seen.{Seen}
 
 -- of the records before i: the first out of range, i where none is, and how many are out
 abbrev pub seenTo : Settings → List Record → ℕ → Seen
-seenTo s row i = record { bad = firstBad (λ p. recordInRange s (getD row p idle)) i; out = count (λ p. isOut (getD row p idle .state)) i }
+seenTo s row i = record {
+  bad = firstBad (λ p. recordInRange s (getD row p idle)) i;
+  out = count (λ p. isOut (getD row p idle .state)) i;
+}
 
 -- the first n records idle, as far as there are any, and the others as they are
 abbrev pub cleared : ℕ → List Record → List Record

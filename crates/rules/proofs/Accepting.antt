@@ -1,22 +1,16 @@
 -- What an accepted verdict tells: of the settings, the rows and the task, of the one access, and of the next record.
-use mathlib.Core.Path.{_≡_, sym, subst, ap}
-use mathlib.Core.Bool.{false}
+use mathlib.Core.{Path.{_≡_, sym, subst, ap}, Bool.false}
 use Prim.Native.Nat.{ℕ, _<_}
 use lib.Dec.{T}
 use borrow.Author.Tests.{leb-false, not-false}
-use Rattle.machine.specs.Settings.{permitted}
-use Rattle.machine.specs.Records.{recordInRange}
-use Rattle.machine.specs.Memory.{Memory}
-use Rattle.machine.specs.Turn.{access, next}
-use Rattle.machine.specs.Refusals.{wrongMoment, lentCases, rangeCases, taskCases}
-use Rattle.machine.specs.OneAccess.{RegisterNeeded}
-use Rattle.machine.specs.declared.{Settings.Settings, View.View, Record.Record, Access.Access, Kind.Kind, Verdict.Verdict}
-use Rattle.machine.proofs.Deciding.{no-case}
-use Rattle.machine.proofs.Limits.{limits}
-use Rattle.machine.proofs.OneAccess.{access-needed}
-use Rattle.machine.proofs.Fitting as fitting
+use Rattle.machine.specs.{Settings.permitted, Records.recordInRange, Memory.Memory, Turn.{access, next}}
+use Rattle.machine.specs.{Refusals.{wrongMoment, lentCases, rangeCases, taskCases}, promises.OneAccess.RegisterNeeded}
+use Rattle.machine.specs.declared.{Settings.Settings, View.View, Record.Record, Access.Access, Kind.Kind}
+use Rattle.machine.specs.declared.Verdict.{Verdict}
+use Rattle.machine.proofs.{refusals.{Deciding.no-case, Limits.limits}, calls.OneAccess.access-needed}
 use Rattle.rules.specs.Decision.{Sees, seenVerdict, Touched, touched, touching}
 use Rattle.rules.proofs.Rows.{Long, none-short}
+use Rattle.machine.proofs.calls.Fitting as fitting
 
 pub record Accepts (s : Settings) (kind : Kind) (p : ℕ) (seen : View) (m : Memory) : Type 0 where
   pub limits : T (permitted s)
@@ -43,7 +37,8 @@ module _ {s : Settings} {kind : Kind} {p : ℕ} {seen : View} {m : Memory} (ok :
     (is : touch ≡ access s kind p (seen .own .state)) where
   -- the access is of a register that is needed
   pub touch-needed : RegisterNeeded s touch
-  touch-needed = rw is (access-needed s (limits s (ok .limits)) p (ok .known) kind (seen .own .state) (ok .own-in-range))
+  touch-needed = rw is (access-needed s (limits s (ok .limits)) p (ok .known) kind (seen .own .state)
+      (ok .own-in-range))
 
   -- the record after it is in range
   pub next-in-range : (v : ℕ) (left : Memory) (new : Record) → touched v left ≡ touching s touch m

@@ -2,9 +2,7 @@
 -- its record and its answer.
 use mathlib.Core.Path.{_≡_, ap}
 use Prim.Native.Nat.{ℕ}
-use Rattle.machine.specs.Memory.{Memory}
-use Rattle.machine.specs.Turn.{access, next}
-use Rattle.machine.specs.Calls.{answerOf}
+use Rattle.machine.specs.{Memory.Memory, Turn.{access, next}, Calls.answerOf}
 use Rattle.machine.specs.declared.{Settings.Settings, Record.Record, View.View, Kind.Kind, Access.Access}
 use Rattle.machine.specs.declared.{Refusal.Refusal, Verdict.Verdict, Answer.Answer}
 use Rattle.rules.specs.Decision.{seenVerdict, Touched, touched, touching, decided, decision}

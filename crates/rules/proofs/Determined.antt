@@ -1,13 +1,9 @@
 -- The contracts of `setup` and `decide` determine what is returned, whole and part by part, and the registers
 -- afterwards, row by row: two outcomes that they admit are equal.
 use mathlib.Core.Path.{_≡_, sym, ap, _∙_}
-use Rattle.machine.specs.Memory.{Memory}
-use Rattle.machine.specs.declared.Settings.{Settings}
-use Rattle.machine.specs.declared.View.{View}
-use Rattle.machine.specs.declared.Event.{Event}
+use Rattle.machine.specs.{Memory.Memory, declared.{Settings.Settings, View.View, Event.Event}}
 use Rattle.rules.specs.Decision.{Decision, decision, decided, Preparation, preparation, prepared}
-use Rattle.rules.specs.declared.Decided.{Decided}
-use Rattle.rules.specs.declared.Prepared.{Prepared}
+use Rattle.rules.specs.declared.{Decided.Decided, Prepared.Prepared}
 
 -- `setup`: the answer and the count of fresh records, and the registers
 pub prepared-determined : (s : Settings) (seen : View) (before : Memory) (one other : Prepared) (m m′ : Memory)

@@ -1,17 +1,11 @@
 -- The first value of a row that is above a limit, as a search finds it: everything passed is at most the limit, and
 -- what it stopped at is above.
-use mathlib.Core.Path.{_≡_, sym}
-use mathlib.Core.List.{List}
+use mathlib.Core.{Path.{_≡_, sym}, List.List}
 use Prim.Native.Nat.{ℕ, _+_, _*_, _≤_, _<_}
-use native.Mathlib.Nat.{le-of-lt, suc-mul, mul-le-mul-right, le-trans}
-use native.Mathlib.Numerals.{add-one}
-use native.Mathlib.Omega.{arith}
-use borrow.Author.Count.{below-more}
-use lib.Dec.{leb, le→leb}
-use lib.ListN.{getD}
-use borrow.Author.Tests.{lt-leb}
-use Rattle.counting.specs.Counting.{firstBad}
-use Rattle.counting.proofs.Searching.{first-bad-is, none-bad}
+use native.Mathlib.{Nat.{le-of-lt, suc-mul, mul-le-mul-right, le-trans}, Numerals.add-one, Omega.arith}
+use borrow.Author.{Count.below-more, Tests.lt-leb}
+use lib.{Dec.{leb, le→leb}, ListN.getD}
+use Rattle.counting.{specs.Counting.firstBad, proofs.Searching.{first-bad-is, none-bad}}
 
 -- everything below n in a row is at most the limit
 abbrev pub Low : List ℕ → ℕ → ℕ → Type 0

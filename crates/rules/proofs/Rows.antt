@@ -1,21 +1,12 @@
 -- What it says of the rows that none is short, and what it says that the tests of what is lent pass.
-use mathlib.Core.Path.{_≡_, refl, ap, _∙_}
-use mathlib.Core.Bool.{Bool, true, false, not, _||_, cond}
-use mathlib.Core.List.{[]}
+use mathlib.Core.{Path.{_≡_, refl, ap, _∙_}, Bool.{Bool, true, false, not, _||_, cond}, List.[]}
 use Prim.Native.Nat.{ℕ, _≤_}
 use native.Mathlib.Omega.{arith}
-use lib.Dec.{T, ltb}
-use lib.ListN.{length}
+use lib.{Dec.{T, ltb}, ListN.length}
 use borrow.Author.Tests.{ltb-false}
-use Rattle.machine.specs.Settings.{permitted}
-use Rattle.machine.specs.Places.{blocks}
-use Rattle.machine.specs.Memory.{Memory, marksNeeded, badX, badMark}
+use Rattle.machine.specs.{Settings.permitted, Places.blocks, Memory.{Memory, marksNeeded, badX, badMark}}
 use Rattle.machine.specs.Refusals.{first, outsideLimits, rowShort, rangeCases, taskCases}
-use Rattle.machine.specs.declared.Settings.{Settings}
-use Rattle.machine.specs.declared.View.{View}
-use Rattle.machine.specs.declared.Kind.{Kind}
-use Rattle.machine.specs.declared.Refusal.{Refusal}
-use Rattle.machine.specs.declared.Verdict.{Verdict}
+use Rattle.machine.specs.declared.{Settings.Settings, View.View, Kind.Kind, Refusal.Refusal, Verdict.Verdict}
 use Rattle.rules.specs.Decision.{seenVerdict, seenSetupVerdict}
 
 none-of-three : (a b c : Bool) → a || (b || c) ≡ false → (a ≡ false) × (b ≡ false) × (c ≡ false)
@@ -53,7 +44,8 @@ pub record Lent (s : Settings) (seen : View) (m : Memory) : Type 0 where
   pub none-is-short : rowShort s (seen .length) (m .xs) (m .marks) ≡ false
   pub long : Long s (seen .length) m
 
-pub lent-passes : (s : Settings) (seen : View) (m : Memory) → seenSetupVerdict s seen m ≡ Verdict.Accepted → Lent s seen m
+pub lent-passes : (s : Settings) (seen : View) (m : Memory) → seenSetupVerdict s seen m ≡ Verdict.Accepted
+    → Lent s seen m
 lent-passes s seen m e =
     let (limits, short) =
     lent-of (permitted s) (rowShort s (seen .length) (m .xs) (m .marks)) Refusal.Limits Refusal.ShortRow e in

@@ -1,10 +1,9 @@
 -- The register of an access that is needed, case by case.
 use mathlib.Core.Path.{_≡_}
 use Prim.Native.Nat.{ℕ}
-use Rattle.machine.specs.OneAccess.{XNeeded, MarkNeeded, RegisterNeeded}
+use Rattle.machine.specs.promises.OneAccess.{XNeeded, MarkNeeded, RegisterNeeded}
 use Rattle.machine.specs.declared.Settings.{Settings}
-use Rattle.machine.specs.declared.Access.{Access}
-use Rattle.machine.specs.declared.Access.the-variants.{XRead, XWritten, MarkRead, MarkWritten}
+use Rattle.machine.specs.declared.Access.{Access, the-variants.{XRead, XWritten, MarkRead, MarkWritten}}
 
 module _ (s : Settings) (touch : Access) (needed : RegisterNeeded s touch) where
   pub x-read : (block : ℕ) → touch ≡ XRead block → XNeeded s block

@@ -1,25 +1,13 @@
 -- What a call decides from what it sees of the records and from the rows of registers: the definitions of the machine,
 -- without the row of records. An outcome holds one memory; the rows are put together in `rows` and nowhere else.
-use mathlib.Core.Path.{_≡_}
-use mathlib.Core.Bool.{false}
-use mathlib.Core.List.{List, []}
+use mathlib.Core.{Path._≡_, Bool.false, List.{List, []}}
 use Prim.Native.Nat.{ℕ, _<_}
 use lib.Dec.{T, ltb}
-use Rattle.machine.specs.Places.{blocks}
-use Rattle.machine.specs.Records.{recordInRange}
-use Rattle.machine.specs.Memory.{Memory, marksNeeded, fill}
-use Rattle.machine.specs.Turn.{access, value, store}
-use Rattle.machine.specs.Refusals.{setupVerdict, verdict}
-use Rattle.machine.specs.Calls.{nextState, answerOf}
-use Rattle.machine.specs.declared.Settings.{Settings}
-use Rattle.machine.specs.declared.Record.{Record}
-use Rattle.machine.specs.declared.View.{View}
-use Rattle.machine.specs.declared.Access.{Access}
-use Rattle.machine.specs.declared.Kind.{Kind}
-use Rattle.machine.specs.declared.Verdict.{Verdict}
-use Rattle.machine.specs.declared.Answer.{Answer}
-use Rattle.rules.specs.declared.Decided.{Decided}
-use Rattle.rules.specs.declared.Prepared.{Prepared}
+use Rattle.machine.specs.{Places.blocks, Records.recordInRange, Memory.{Memory, marksNeeded, fill}}
+use Rattle.machine.specs.{Turn.{access, value, store}, Refusals.{setupVerdict, verdict}, Calls.{nextState, answerOf}}
+use Rattle.machine.specs.declared.{Settings.Settings, Record.Record, View.View, Access.Access, Kind.Kind}
+use Rattle.machine.specs.declared.{Verdict.Verdict, Answer.Answer}
+use Rattle.rules.specs.declared.{Decided.Decided, Prepared.Prepared}
 
 -- the rows of X numbers and marks as a memory; the accesses touch no record
 abbrev pub rows : List ℕ → List ℕ → Memory

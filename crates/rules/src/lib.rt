@@ -22,7 +22,7 @@ ghost use Rattle.machine.specs.Settings.{permitted};
 ghost use Rattle.machine.specs.Places.{blocks};
 ghost use Rattle.machine.specs.Memory.{marksNeeded, badX, badMark, fill};
 ghost use Rattle.machine.specs.Refusals.{first, rowShort, lentCases, rangeCases, taskCases, oneTimeRelease, wrongMoment, tooManyOut, verdict};
-ghost use Rattle.machine.specs.OneAccess.{RegisterNeeded};
+ghost use Rattle.machine.specs.promises.OneAccess.{RegisterNeeded};
 ghost use Rattle.rules.specs.Decision.{rows, Sees, touched, touching, decided, decision, prepared, preparation};
 
 // The answer of a call, and the task's record to put back.

@@ -37,5 +37,15 @@ pub use Rattle.walks.proofs.Fronts.{lends-front, front-back}
 pub use Rattle.walks.proofs.Lending.{under, lends-again, comes-back, lends-shared, shared-back}
 pub use Rattle.walks.proofs.Locals.{placed, standing, leaves}
 pub use Rattle.walks.proofs.Statements.{copies, copies-all, copies-field, points-to, refers, joins, means}
-pub use Rattle.walks.proofs.Statements.{vacates, sets, resets-last, lands-in, lands-over, gives, parts, then-set, then-skip}
+pub use Rattle.walks.proofs.Statements.{
+  vacates,
+  sets,
+  resets-last,
+  lands-in,
+  lands-over,
+  gives,
+  parts,
+  then-set,
+  then-skip,
+}
 pub use Rattle.walks.proofs.Walk.{AllReal, brought, left, Post, Body, exits, meets}

@@ -1,10 +1,7 @@
 -- `make` hands the call on by its enum, in covered code.
 use denote.Ref.{now}
-use Rattle.machine.specs.Lent.{lent}
-use Rattle.machine.specs.Memory.{Memory}
-use Rattle.machine.proofs.Tests.{tests}
-use Rattle.calls.proofs.Making.{setup-made, event-made}
-use Rattle.calls.proofs.make.Statement.{statement}
+use Rattle.machine.{specs.{Lent.lent, Memory.Memory}, proofs.Tests.tests}
+use Rattle.calls.proofs.{Making.{setup-made, event-made}, make.Statement.statement}
 use Rattle.calls.proofs.make.Tie as tie
 
 abbrev before : tie.Start → Memory
@@ -15,7 +12,8 @@ returns c =
     let made = c .before .before .before .before in
     let told = made .before .before .before in
     let start = told .before .before .before .before in
-    setup-made (start .args .s) (start .args .call) (before start) _ (told .enum-told .given .1) (made .setup-of .ensures)
+    setup-made (start .args .s) (start .args .call) (before start) _ (told .enum-told .given .1)
+    (made .setup-of .ensures)
 
 returns-2 : tie.Need-returns-2
 returns-2 c =

@@ -1,17 +1,16 @@
 -- `release` hands its rows to `step`, with the event of its kind.
-use Rattle.walks.proofs.Prelude.{refl, URA, Model, Heap, Lfts, Shares, GhostRules, Running, givenOf, Given, emp, id⊢, factI, _$_, !, by, agg, lit, and-then, no-more, Args, Lasts, AllReal, Real, typed, Body, hears, calls, exits, meets, leaves, copies-all, points-to, refers, joins, sets, lands-in, gives}
-use Rattle.machine.specs.Memory.{Memory}
-use Rattle.machine.specs.Calls.{Outcome, call}
-use Rattle.machine.specs.Lent.{lent}
+use Rattle.walks.proofs.Prelude.{refl, URA, Model, Heap, Lfts, Shares, GhostRules, Running, givenOf, Given, emp, id⊢}
+use Rattle.walks.proofs.Prelude.{factI, _$_, !, by, agg, lit, and-then, no-more, Args, Lasts, AllReal, Real, typed}
+use Rattle.walks.proofs.Prelude.{Body, hears, calls, exits, meets, leaves, copies-all, points-to, refers, joins, sets}
+use Rattle.walks.proofs.Prelude.{lands-in, gives}
+use Rattle.machine.specs.{Memory.Memory, Calls.{Outcome, call}, Lent.lent}
 use Rattle.machine.specs.declared.{Event.Event, Kind.Kind, TaskId.TaskId}
 use Rattle.calls.proofs.Functions.{answer-data, kind-data, event-data, step-fn, release-fn}
-use Rattle.calls.proofs.Stepping.{kind-is, event-is}
+use Rattle.calls.proofs.{Stepping.{kind-is, event-is}, release.{Key.name as key, Statement.statement}}
 use Rattle.calls.proofs.step.Symbol as callee
 use Rattle.calls.proofs.step.Met as callee-met
 use Rattle.calls.proofs.step as step
 use Rattle.calls.proofs.release as this
-use Rattle.calls.proofs.release.Key.{name as key}
-use Rattle.calls.proofs.release.Statement.{statement}
 use Rattle.calls.proofs.release.Code as code
 
 module _ {M : Type 1} (𝓤 : URA M) (H : Heap 𝓤) (𝓜 : Model 𝓤 H) (𝓖 : GhostRules 𝓤 H) (𝓡 : Running 𝓤 H 𝓜)

@@ -1,28 +1,28 @@
 -- `setup`: look, decide by `rules`, make the records idle.
-use Rattle.walks.proofs.Prelude.{refl, List, [], _∷_, lit<, length, URA, fullShare, Model, Heap, Lfts, Shares, GhostRules, Running, givenOf, Given, named, RefT, Room, owed, owes, emp, id⊢, factI, _$_, !, by, move, agg, of-opd, lit, and-then, no-more, Args, Lasts, AllReal, Real, typed, Body, hears, calls, exits, meets, leaves, copies, copies-all, copies-field, points-to, refers, sets, lands-in, gives, under, lends-shared, shared-back}
+use Rattle.walks.proofs.Prelude.{refl, List, [], _∷_, lit<, length, URA, fullShare, Model, Heap, Lfts, Shares}
+use Rattle.walks.proofs.Prelude.{GhostRules, Running, givenOf, Given, named, RefT, Room, owed, owes, emp, id⊢, factI}
+use Rattle.walks.proofs.Prelude.{_$_, !, by, move, agg, of-opd, lit, and-then, no-more, Args, Lasts, AllReal, Real}
+use Rattle.walks.proofs.Prelude.{typed, Body, hears, calls, exits, meets, leaves, copies, copies-all, copies-field}
+use Rattle.walks.proofs.Prelude.{points-to, refers, sets, lands-in, gives, under, lends-shared, shared-back}
 use Rattle.machine.specs.Memory.{Memory, viewOf}
 use Rattle.machine.specs.declared.{Record.Record, Settings.Settings, TaskId.TaskId, View.View}
+use Rattle.rows.specs.Rows.{cleared}
+use Rattle.rows.proofs.{Cleared.cleared-length, Functions.{R, task-data, view-data, look-fn, fill-fn}}
+use Rattle.rules.specs.{Decision.{rows, Preparation, preparation}, declared.Prepared.Prepared}
+use Rattle.calls.proofs.Functions.{answer-data, prepared-data, decide-setup-fn, setup-fn}
+use Rattle.calls.proofs.{ByDecision.by-preparation, setup.{Key.name as key, Statement.statement}}
 use Rattle.machine.proofs.TaskId as I
 use Rattle.machine.proofs.TaskId.Laws as I′
-use Rattle.rows.specs.Rows.{cleared}
-use Rattle.rows.proofs.Cleared.{cleared-length}
-use Rattle.rows.proofs.Functions.{R, task-data, view-data, look-fn, fill-fn}
 use Rattle.rows.proofs.look.Symbol as look
 use Rattle.rows.proofs.look.Met as look-met
 use Rattle.rows.proofs.fill.Symbol as fill
 use Rattle.rows.proofs.fill.Met as fill-met
-use Rattle.rules.specs.Decision.{rows, Preparation, preparation}
-use Rattle.rules.specs.declared.Prepared.{Prepared}
 use Rattle.rules.proofs.Prepared as P
 use Rattle.rules.proofs.Prepared.Laws as P′
 use Rattle.rules.proofs.setup as deciding
 use Rattle.rules.proofs.setup.Symbol as decide
 use Rattle.rules.proofs.setup.Met as decide-met
-use Rattle.calls.proofs.Functions.{answer-data, prepared-data, decide-setup-fn, setup-fn}
-use Rattle.calls.proofs.ByDecision.{by-preparation}
 use Rattle.calls.proofs.setup as this
-use Rattle.calls.proofs.setup.Key.{name as key}
-use Rattle.calls.proofs.setup.Statement.{statement}
 use Rattle.calls.proofs.setup.Code as code
 
 module _ {M : Type 1} (𝓤 : URA M) (H : Heap 𝓤) (𝓜 : Model 𝓤 H) (𝓖 : GhostRules 𝓤 H) (𝓡 : Running 𝓤 H 𝓜)

@@ -1,29 +1,30 @@
 -- `step`: look, decide by `rules`, put back.
-use Rattle.walks.proofs.Prelude.{refl, List, [], _∷_, _<_, _^_, arith, length, URA, fullShare, Model, Heap, Lfts, Shares, GhostRules, Running, givenOf, Given, named, RefT, Room, owed, emp, id⊢, factI, _$_, !, by, move, of-opd, un, and-then, no-more, Args, Lasts, AllReal, Real, typed, Body, hears, calls, exits, meets, leaves, copies, copies-all, copies-field, points-to, refers, sets, lands-in, gives, under, lends-shared, shared-back}
+use Rattle.walks.proofs.Prelude.{refl, List, [], _∷_, _<_, _^_, arith, length, URA, fullShare, Model, Heap, Lfts}
+use Rattle.walks.proofs.Prelude.{Shares, GhostRules, Running, givenOf, Given, named, RefT, Room, owed, emp, id⊢, factI}
+use Rattle.walks.proofs.Prelude.{_$_, !, by, move, of-opd, un, and-then, no-more, Args, Lasts, AllReal, Real, typed}
+use Rattle.walks.proofs.Prelude.{Body, hears, calls, exits, meets, leaves, copies, copies-all, copies-field, points-to}
+use Rattle.walks.proofs.Prelude.{refers, sets, lands-in, gives, under, lends-shared, shared-back}
 use lib.ListN.{set, length-set}
 use Rattle.machine.specs.Memory.{Memory, viewOf}
 use Rattle.machine.specs.declared.{Record.Record, Settings.Settings, TaskId.TaskId, View.View, Event.Event}
+use Rattle.rows.proofs.Functions.{R, record-data, task-data, view-data, look-fn, put-fn}
+use Rattle.rules.specs.{Decision.{rows, Decision, decision}, declared.Decided.Decided}
+use Rattle.calls.proofs.Functions.{answer-data, decided-data, event-data, decide-fn, step-fn}
+use Rattle.calls.proofs.{ByDecision.{view-sees, by-decision}, step.{Key.name as key, Statement.statement}}
 use Rattle.machine.proofs.Event as E
 use Rattle.machine.proofs.Event.Laws as E′
 use Rattle.machine.proofs.TaskId as I
 use Rattle.machine.proofs.TaskId.Laws as I′
-use Rattle.rows.proofs.Functions.{R, record-data, task-data, view-data, look-fn, put-fn}
 use Rattle.rows.proofs.look.Symbol as look
 use Rattle.rows.proofs.look.Met as look-met
 use Rattle.rows.proofs.put.Symbol as put
 use Rattle.rows.proofs.put.Met as put-met
-use Rattle.rules.specs.Decision.{rows, Decision, decision}
-use Rattle.rules.specs.declared.Decided.{Decided}
 use Rattle.rules.proofs.Decided as D
 use Rattle.rules.proofs.Decided.Laws as D′
 use Rattle.rules.proofs.decide as deciding
 use Rattle.rules.proofs.decide.Symbol as decide
 use Rattle.rules.proofs.decide.Met as decide-met
-use Rattle.calls.proofs.Functions.{answer-data, decided-data, event-data, decide-fn, step-fn}
-use Rattle.calls.proofs.ByDecision.{view-sees, by-decision}
 use Rattle.calls.proofs.step as this
-use Rattle.calls.proofs.step.Key.{name as key}
-use Rattle.calls.proofs.step.Statement.{statement}
 use Rattle.calls.proofs.step.Code as code
 
 module _ {M : Type 1} (𝓤 : URA M) (H : Heap 𝓤) (𝓜 : Model 𝓤 H) (𝓖 : GhostRules 𝓤 H) (𝓡 : Running 𝓤 H 𝓜)

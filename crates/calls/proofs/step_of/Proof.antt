@@ -1,26 +1,20 @@
 -- `step_of` lends its own records to `step`, and gives them back with the answer.
-use Rattle.walks.proofs.Prelude.{_≡_, refl, sym, ap, subst, List, [], _∷_, lit<, length}
-use Rattle.walks.proofs.Prelude.{URA, fullShare, Model, Heap, Lft, Lfts, Shares, GhostRules, Running, givenOf, Given}
-use Rattle.walks.proofs.Prelude.{named, RefT, Room, sliceVal}
+use Rattle.walks.proofs.Prelude.{_≡_, refl, sym, ap, subst, List, [], _∷_, lit<, length, URA, fullShare, Model, Heap}
+use Rattle.walks.proofs.Prelude.{Lft, Lfts, Shares, GhostRules, Running, givenOf, Given, named, RefT, Room, sliceVal}
 use Rattle.walks.proofs.Prelude.{emp, id⊢, factI, _$_, !, by, move, agg, of-opd, lit, stop, from, addr, and-then}
-use Rattle.walks.proofs.Prelude.{no-more}
-use Rattle.walks.proofs.Prelude.{Args, Lasts, AllReal, Real, typed, Body, hears, calls, exits, meets, leaves, copies}
-use Rattle.walks.proofs.Prelude.{copies-all, points-to, refers, joins, means, sets, lands-in, gives, lends-array}
-use Rattle.walks.proofs.Prelude.{array-back, slice-at}
-use Rattle.machine.specs.Memory.{Memory}
-use Rattle.machine.specs.Calls.{Outcome, call}
-use Rattle.machine.specs.Lent.{lent}
-use Rattle.machine.specs.declared.Record.{Record}
+use Rattle.walks.proofs.Prelude.{no-more, Args, Lasts, AllReal, Real, typed, Body, hears, calls, exits, meets, leaves}
+use Rattle.walks.proofs.Prelude.{copies, copies-all, points-to, refers, joins, means, sets, lands-in, gives}
+use Rattle.walks.proofs.Prelude.{lends-array, array-back, slice-at}
+use Rattle.machine.specs.{Memory.Memory, Calls.{Outcome, call}, Lent.lent, declared.Record.Record}
 use Rattle.rows.proofs.Functions.{R, record-data}
 use Rattle.calls.specs.declared.Made.{Made}
 use Rattle.calls.proofs.Giving.{made-is, made-val}
 use Rattle.calls.proofs.Functions.{answer-data, made-data, step-fn, step-of-fn, records-data}
+use Rattle.calls.proofs.step_of.{Key.name as key, Statement.statement}
 use Rattle.calls.proofs.step as step
 use Rattle.calls.proofs.step.Symbol as callee
 use Rattle.calls.proofs.step.Met as callee-met
 use Rattle.calls.proofs.step_of as this
-use Rattle.calls.proofs.step_of.Key.{name as key}
-use Rattle.calls.proofs.step_of.Statement.{statement}
 use Rattle.calls.proofs.step_of.Code as code
 
 module _ {M : Type 1} (𝓤 : URA M) (H : Heap 𝓤) (𝓜 : Model 𝓤 H) (𝓖 : GhostRules 𝓤 H) (𝓡 : Running 𝓤 H 𝓜)

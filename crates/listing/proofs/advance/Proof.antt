@@ -5,9 +5,8 @@ use lib.ListN.{getD}
 use Rattle.printed.specs.Listing.{turnsAfter, completed}
 use denote.Ref.{now}
 use Rattle.machine.specs.Lent.{lent}
-use Rattle.listing.proofs.Running.{stands-advanced}
+use Rattle.listing.proofs.{Running.stands-advanced, advance.Statement.statement}
 use borrow.Author.Needs.{needs}
-use Rattle.listing.proofs.advance.Statement.{statement}
 use Rattle.listing.proofs.advance.Tie as tie
 
 returns : tie.Need-returns

@@ -2,13 +2,10 @@
 use mathlib.Core.Path.{refl, ap, _∙_}
 use lib.ListN.{replicate}
 use denote.Ref.{now}
-use Rattle.machine.specs.Records.{idle}
-use Rattle.machine.specs.Lent.{lent}
-use Rattle.calls.specs.Made.{outcomeOf}
-use Rattle.calls.specs.declared.Call.{Call}
-use Rattle.listing.proofs.Running.{stands-begun}
+use Rattle.machine.specs.{Records.idle, Lent.lent}
+use Rattle.calls.specs.{Made.outcomeOf, declared.Call.Call}
+use Rattle.listing.proofs.{Running.stands-begun, begin.Statement.statement}
 use borrow.Author.Needs.{needs}
-use Rattle.listing.proofs.begin.Statement.{statement}
 use Rattle.listing.proofs.begin.Tie as tie
 
 returns : tie.Need-returns
@@ -18,7 +15,8 @@ returns c =
     let a = c1 .before .before .before .before .before .before .before .args in
     let fresh = c1 .before .before .before .idle-records .ensures in
     let calls =
-    c1 .make .ensures ∙ ap (λ records. outcomeOf (a .s) Call.Setup (lent records (now (a .xs)) (now (a .marks)))) fresh in
+    c1 .make .ensures ∙ ap (λ records. outcomeOf (a .s) Call.Setup (lent records (now (a .xs)) (now (a .marks))))
+    fresh in
     stands-begun (a .s) (lent (replicate 256 idle) (now (a .xs)) (now (a .marks))) (now (a .room)) _ _ _ calls
     (c .no-turns .ensures) refl refl (c2 .put-grid .ensures)
 

@@ -1,12 +1,8 @@
 -- `holders` counts: after i records n is the count of those below i that hold, and at most i.
-use mathlib.Core.Path.{_≡_, refl, sym, _∙_}
+use mathlib.Core.Path.{_≡_, sym, _∙_}
 use Prim.Native.Nat.{_≤_, _-_}
-use native.Mathlib.Numerals.{add-one}
 use native.Mathlib.Omega.{arith}
 use borrow.Author.Needs.{needs}
-use lib.ListN.{getD}
-use Rattle.machine.specs.Records.{idle, isHolding}
-use Rattle.counting.specs.Counting.{count, tick}
 use Rattle.listing.proofs.Counting.{holding, none-holding, holding-more, tick-at-most}
 use Rattle.listing.proofs.holders.Statement.{statement}
 use Rattle.listing.proofs.holders.Tie as tie
@@ -45,8 +41,13 @@ loop-again : tie.Need-loop-again Inv-loop μ-loop
 loop-again c =
     let inv = c .before .before .before .before .loop .inv in
     let i = c .before .before .before .before .loop .i in
-    let more = c .ticked .ensures in
-    (search needs, more ∙ rw (c .before .is-holding .ensures, inv .1) (sym (holding-more (c .before .before .before .before .before .before .args .t2) i)), omega (arith, more, tick-at-most (c .before .is-holding .result) (c .before .before .before .before .loop .n)))
+    let more = c .ticked .ensures in (
+      search needs,
+      more ∙ rw (c .before .is-holding .ensures, inv .1)
+          (sym (holding-more (c .before .before .before .before .before .before .args .t2) i)),
+      omega
+          (arith, more, tick-at-most (c .before .is-holding .result) (c .before .before .before .before .loop .n)),
+    )
 
 returns : tie.Need-returns Inv-loop μ-loop
 returns c =

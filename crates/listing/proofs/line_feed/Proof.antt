@@ -1,8 +1,7 @@
 -- A line ends in one line feed.
 use lib.Dec.{lit≤}
 use Rattle.machine.proofs.Tests.{tests}
-use Rattle.listing.proofs.Writing.{within}
-use Rattle.listing.proofs.line_feed.Statement.{statement}
+use Rattle.listing.proofs.{Writing.within, line_feed.Statement.statement}
 use Rattle.listing.proofs.line_feed.Tie as tie
 
 slice-aggregate-copy : tie.Need-slice-aggregate-copy

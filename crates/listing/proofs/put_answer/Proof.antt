@@ -1,9 +1,8 @@
 -- `put_answer` puts the text of the answer in each arm.
 use mathlib.Core.Path.{sym}
 use lib.Dec.{lit≤}
-use Rattle.listing.proofs.Writing.{within, wider}
+use Rattle.listing.proofs.{Writing.{within, wider}, put_answer.Statement.statement}
 use borrow.Author.Needs.{needs}
-use Rattle.listing.proofs.put_answer.Statement.{statement}
 use Rattle.listing.proofs.put_answer.Tie as tie
 
 enum-told : tie.Need-enum-told
@@ -58,31 +57,39 @@ same-length : tie.Need-same-length
 same-length c = search needs
 
 returns : tie.Need-returns
-returns c = rw (c .before .before .before .before .before .enum-told .given .1) (within (c .before .before .copy .ensures) 13 (lit≤ tt))
+returns c = rw (c .before .before .before .before .before .enum-told .given .1)
+    (within (c .before .before .copy .ensures) 13 (lit≤ tt))
 
 same-length-2 : tie.Need-same-length-2
 same-length-2 c = search needs
 
 returns-2 : tie.Need-returns-2
-returns-2 c = rw (c .before .before .before .before .before .enum-told2 .given .1) (within (c .before .before .copy2 .ensures) 13 (lit≤ tt))
+returns-2 c = rw (c .before .before .before .before .before .enum-told2 .given .1)
+    (within (c .before .before .copy2 .ensures) 13 (lit≤ tt))
 
 same-length-3 : tie.Need-same-length-3
 same-length-3 c = search needs
 
 returns-3 : tie.Need-returns-3
-returns-3 c = rw (c .before .before .before .before .before .before .answer .given .1) (wider (c .before .before .labelled .ensures) 13 (lit≤ tt))
+returns-3 c = rw (c .before .before .before .before .before .before .answer .given .1)
+    (wider (c .before .before .labelled .ensures) 13 (lit≤ tt))
 
 same-length-4 : tie.Need-same-length-4
 same-length-4 c = search needs
 
 returns-4 : tie.Need-returns-4
-returns-4 c = rw (c .before .before .before .before .before .before .answer2 .given .1) (wider (c .before .before .labelled2 .ensures) 13 (lit≤ tt))
+returns-4 c = rw (c .before .before .before .before .before .before .answer2 .given .1)
+    (wider (c .before .before .labelled2 .ensures) 13 (lit≤ tt))
 
 same-length-5 : tie.Need-same-length-5
 same-length-5 c = search needs
 
 returns-5 : tie.Need-returns-5
-returns-5 c = rw (c .before .before .before .before .before .before .before .answer3 .given .1, sym (c .before .before .before .number .ensures)) (c .before .before .labelled3 .ensures)
+returns-5 c = rw (
+  c .before .before .before .before .before .before .before .answer3 .given .1,
+  sym
+      (c .before .before .before .number .ensures),
+) (c .before .before .labelled3 .ensures)
 
 pub put-answer-spec : {M : Type 1} → statement M
 put-answer-spec =

@@ -1,7 +1,6 @@
 -- `put_event` puts an event's line piece by piece.
-use Rattle.listing.proofs.Writing.{whole, then}
+use Rattle.listing.proofs.{Writing.{whole, then}, put_event.Statement.statement}
 use borrow.Author.Needs.{needs}
-use Rattle.listing.proofs.put_event.Statement.{statement}
 use Rattle.listing.proofs.put_event.Tie as tie
 
 decimal-requires : tie.Need-decimal-requires

@@ -1,8 +1,7 @@
 -- `put_kind` puts the text of the kind in each arm.
 use lib.Dec.{lit≤}
-use Rattle.listing.proofs.Writing.{within, whole}
+use Rattle.listing.proofs.{Writing.{within, whole}, put_kind.Statement.statement}
 use borrow.Author.Needs.{needs}
-use Rattle.listing.proofs.put_kind.Statement.{statement}
 use Rattle.listing.proofs.put_kind.Tie as tie
 
 enum-told : tie.Need-enum-told
@@ -36,19 +35,22 @@ same-length : tie.Need-same-length
 same-length c = search needs
 
 returns : tie.Need-returns
-returns c = rw (c .before .before .before .before .before .enum-told .given .1) (within (c .before .before .copy .ensures) 5 (lit≤ tt))
+returns c = rw (c .before .before .before .before .before .enum-told .given .1)
+    (within (c .before .before .copy .ensures) 5 (lit≤ tt))
 
 same-length-2 : tie.Need-same-length-2
 same-length-2 c = search needs
 
 returns-2 : tie.Need-returns-2
-returns-2 c = rw (c .before .before .before .before .before .enum-told2 .given .1) (whole (c .before .before .copy2 .ensures))
+returns-2 c = rw (c .before .before .before .before .before .enum-told2 .given .1)
+    (whole (c .before .before .copy2 .ensures))
 
 same-length-3 : tie.Need-same-length-3
 same-length-3 c = search needs
 
 returns-3 : tie.Need-returns-3
-returns-3 c = rw (c .before .before .before .before .before .enum-told3 .given .1) (whole (c .before .before .copy3 .ensures))
+returns-3 c = rw (c .before .before .before .before .before .enum-told3 .given .1)
+    (whole (c .before .before .copy3 .ensures))
 
 pub put-kind-spec : {M : Type 1} → statement M
 put-kind-spec =

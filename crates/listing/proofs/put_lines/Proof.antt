@@ -1,7 +1,6 @@
 -- `put_lines` lends fresh rows of the largest size to the run.
-use Rattle.listing.proofs.Running.{fresh-rows}
+use Rattle.listing.proofs.{Running.fresh-rows, put_lines.Statement.statement}
 use borrow.Author.Needs.{needs}
-use Rattle.listing.proofs.put_lines.Statement.{statement}
 use Rattle.listing.proofs.put_lines.Tie as tie
 
 no-xs-requires : tie.Need-no-xs-requires
@@ -17,7 +16,12 @@ slice-aggregate-run-2 : tie.Need-slice-aggregate-run-2
 slice-aggregate-run-2 c = search needs
 
 run-requires : tie.Need-run-requires
-run-requires c κs = (c .before .before .before .before .before .before .before .pre .0, fresh-rows _ _ (c .before .before .before .before .no-xs .ensures) (c .before .before .before .no-marks .ensures), search needs)
+run-requires c κs = (
+  c .before .before .before .before .before .before .before .pre .0,
+  fresh-rows _ _
+      (c .before .before .before .before .no-xs .ensures) (c .before .before .before .no-marks .ensures),
+  search needs,
+)
 
 same-length : tie.Need-same-length
 same-length c = search needs

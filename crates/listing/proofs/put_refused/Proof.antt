@@ -1,8 +1,7 @@
 -- `put_refused` puts the one line of a file that does not open.
 use mathlib.Core.Path.{sym}
-use Rattle.listing.proofs.Writing.{then}
+use Rattle.listing.proofs.{Writing.then, put_refused.Statement.statement}
 use borrow.Author.Needs.{needs}
-use Rattle.listing.proofs.put_refused.Statement.{statement}
 use Rattle.listing.proofs.put_refused.Tie as tie
 
 slice-aggregate-labelled : tie.Need-slice-aggregate-labelled
@@ -23,7 +22,8 @@ same-length c = search needs
 returns : tie.Need-returns
 returns c =
     let c1 = c .before .before .before .before .before .before in
-    rw (sym (c1 .before .number .ensures)) (then (c1 .labelled .ensures) 1 (search needs) (λ more. c .before .before .line-feed .ensures) .puts)
+    rw (sym (c1 .before .number .ensures))
+    (then (c1 .labelled .ensures) 1 (search needs) (λ more. c .before .before .line-feed .ensures) .puts)
 
 pub put-refused-spec : {M : Type 1} → statement M
 put-refused-spec =

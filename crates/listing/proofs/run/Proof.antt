@@ -1,6 +1,5 @@
 -- `run` goes as the definition's progress: the code stands where it is after i events.
-use mathlib.Core.Path.{_≡_, refl, sym, _∙_}
-use mathlib.Core.List.{List}
+use mathlib.Core.{Path.{_≡_, refl, sym, _∙_}, List.List}
 use Prim.Native.Nat.{ℕ, _+_, _*_, _-_, _≤_}
 use native.Mathlib.Omega.{arith}
 use borrow.Author.Needs.{needs}
@@ -92,7 +91,8 @@ returns c =
     let a = start at .args in
     let all : at .loop .i ≡ a .count = omega arith in
     let holders = c .before .before .before .before .holders .ensures .0 in
-    rw (sym all) (ends (a .s) (now (a .file)) (at .loop .i) (at .loop .standing) _ (now (a .room)) (at .loop .room) _ _ _
+    rw (sym all) (ends (a .s) (now (a .file)) (at .loop .i) (at .loop .standing) _ (now (a .room))
+    (at .loop .room) _ _ _
     (omega (arith, start at .pre .2)) (here at) holders (c .before .before .put-end .ensures))
 
 pub run-spec : {M : Type 1} → statement M

@@ -1,9 +1,7 @@
 -- `turns_after` counts an accepted call in its task's place; past the row there is none.
 use mathlib.Core.Path.{sym, _∙_}
-use borrow.Author.Tests.{not-true, not-false}
-use Rattle.listing.proofs.Counting.{turns-refused, turns-counted, turns-past}
-use borrow.Author.Needs.{needs}
-use Rattle.listing.proofs.turns_after.Statement.{statement}
+use borrow.Author.{Tests.{not-true, not-false}, Needs.needs}
+use Rattle.listing.proofs.{Counting.{turns-refused, turns-counted, turns-past}, turns_after.Statement.statement}
 use Rattle.listing.proofs.turns_after.Tie as tie
 
 accepted-requires : tie.Need-accepted-requires
@@ -20,7 +18,9 @@ cast-i c = search needs
 returns-2 : tie.Need-returns-2
 returns-2 c =
     let a = c .before .before .before .before .before .args in
-    turns-past (a .event) (a .answer) (a .t1) (sym (c .before .before .before .before .accepted .ensures) ∙ not-false _ (c .before .before .before .if1 .left)) (search needs)
+    turns-past (a .event) (a .answer) (a .t1)
+    (sym (c .before .before .before .before .accepted .ensures)
+    ∙ not-false _ (c .before .before .before .if1 .left)) (search needs)
 
 mul-counted : tie.Need-mul-counted
 mul-counted c = search needs
@@ -40,7 +40,9 @@ array-write-after c = search needs
 returns-3 : tie.Need-returns-3
 returns-3 c =
     let a = c .before .before .before .before .before .before .args in
-    rw (c .counted .ensures) (turns-counted (a .event) (a .answer) (a .t1) (sym (c .before .before .before .before .before .accepted .ensures) ∙ not-false _ (c .before .before .before .before .if1 .left)))
+    rw (c .counted .ensures) (turns-counted (a .event) (a .answer) (a .t1)
+    (sym (c .before .before .before .before .before .accepted .ensures)
+    ∙ not-false _ (c .before .before .before .before .if1 .left)))
 
 pub turns-after-spec : {M : Type 1} → statement M
 turns-after-spec =

@@ -1,6 +1,6 @@
 -- The count of blocks is the definition's, by what `half` ensures of k, which is at most 16.
 use native.Mathlib.Omega.{arith}
-use Rattle.machine.proofs.{Limits.limits, Tests.tests}
+use Rattle.machine.proofs.{refusals.Limits.limits, Tests.tests}
 use Rattle.places.proofs.blocks.Statement.{statement}
 use Rattle.places.proofs.blocks.Tie as tie
 

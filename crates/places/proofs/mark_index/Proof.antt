@@ -2,7 +2,7 @@
 use mathlib.Core.Path.{refl}
 use Prim.Native.Nat.{_≤_}
 use native.Mathlib.Omega.{arith}
-use Rattle.machine.proofs.{Limits.{limits, width-most}, Tests.tests}
+use Rattle.machine.proofs.{refusals.Limits.{limits, width-most}, Tests.tests}
 use Rattle.places.proofs.Counts.{product-fits, product-and-sum-fit, blocks-most}
 use Rattle.places.proofs.mark_index.Statement.{statement}
 use Rattle.places.proofs.mark_index.Tie as tie

@@ -1,6 +1,6 @@
 -- The count of marks is the definition's: so many blocks, of so many marks each.
 use native.Mathlib.Omega.{arith}
-use Rattle.machine.proofs.{Limits.{limits, width-most}, Tests.tests}
+use Rattle.machine.proofs.{refusals.Limits.{limits, width-most}, Tests.tests}
 use Rattle.places.proofs.{Counts.{product-fits, blocks-most, marks-of}, marks_needed.Statement.statement}
 use Rattle.places.proofs.marks_needed.Tie as tie
 

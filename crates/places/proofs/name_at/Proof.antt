@@ -3,7 +3,7 @@ use mathlib.Core.Path.{_≡_, ap}
 use Prim.Native.Nat.{ℕ}
 use native.Mathlib.Omega.{arith}
 use Rattle.grid.specs.Triangle.{placeNumber}
-use Rattle.machine.{specs.{Calls.nameAt, declared.{Settings.Settings, Name.Name}}, proofs.Limits.limits}
+use Rattle.machine.{specs.{Calls.nameAt, declared.{Settings.Settings, Name.Name}}, proofs.refusals.Limits.limits}
 use Rattle.places.proofs.{Counts.place-number-fits, name_at.Statement.statement}
 use Rattle.places.proofs.name_at.Tie as tie
 

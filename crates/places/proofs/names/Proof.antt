@@ -1,7 +1,7 @@
 -- The count of names is the definition's: k(k+1)/2 is the count of blocks and k (`names-half`).
 use mathlib.Core.Path.{sym}
 use native.Mathlib.Omega.{arith}
-use Rattle.machine.proofs.{Limits.limits, Numbering.names-half, Tests.tests}
+use Rattle.machine.proofs.{refusals.Limits.limits, bridge.Numbering.names-half, Tests.tests}
 use Rattle.places.proofs.{Counts.blocks-most, names.Statement.statement}
 use Rattle.places.proofs.names.Tie as tie
 

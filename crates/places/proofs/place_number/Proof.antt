@@ -2,7 +2,7 @@
 use Prim.Native.Nat.{_-_, _≤_}
 use native.Mathlib.Omega.{arith}
 use Rattle.grid.{specs.Triangle.placeNumber, proofs.Triangle.half-below}
-use Rattle.machine.proofs.{Limits.limits, Tests.tests}
+use Rattle.machine.proofs.{refusals.Limits.limits, Tests.tests}
 use Rattle.places.proofs.{Counts.{product-small, product-fits}, place_number.Statement.statement}
 use Rattle.places.proofs.place_number.Tie as tie
 

@@ -1,6 +1,6 @@
 -- `next` is the definition's: an ask comes to (0, 0), which is a place since k is 1 or more; a turn goes on from the
 -- value read; a release leaves the task idle.
-use Rattle.machine.proofs.{Limits.limits, Tests.tests}
+use Rattle.machine.proofs.{refusals.Limits.limits, Tests.tests}
 use Rattle.records.proofs.next.Statement.{statement}
 use Rattle.records.proofs.next.Tie as tie
 

@@ -2,7 +2,7 @@
 use mathlib.Core.Path.{_∙_}
 use Prim.Native.Nat.{_+_, _≤_}
 use native.Mathlib.Omega.{arith}
-use Rattle.machine.proofs.{Arriving.{release-clears, release-nothing}, Tests.tests}
+use Rattle.machine.proofs.{bridge.Arriving.{release-clears, release-nothing}, Tests.tests}
 use Rattle.records.proofs.{States.holds-near, release_access.Statement.statement}
 use Rattle.records.proofs.release_access.Tie as tie
 

@@ -1,6 +1,6 @@
 -- The access of a turn is the definition's: that of the point, on a block since the record is in range.
 use native.Mathlib.Omega.{arith}
-use Rattle.machine.proofs.{Ranges.seeks-on-block, Tests.tests}
+use Rattle.machine.proofs.{refusals.Ranges.seeks-on-block, Tests.tests}
 use Rattle.records.proofs.turn_access.Statement.{statement}
 use Rattle.records.proofs.turn_access.Tie as tie
 

@@ -1,12 +1,9 @@
 -- `count`: the length stands in the slice's own machine value.
-use Rattle.walks.proofs.Prelude.{refl, [], _∷_, length}
-use Rattle.walks.proofs.Prelude.{URA, Model, Heap, Lfts, Shares, GhostRules, Running}
-use Rattle.walks.proofs.Prelude.{emp, factI, _$_, !, by, keep, of-opd}
-use Rattle.walks.proofs.Prelude.{Args, AllReal, Body, exits, meets, leaves, copies-field, sets, gives}
-use Rattle.rows.proofs.Functions.{count-fn}
+use Rattle.walks.proofs.Prelude.{refl, [], _∷_, length, URA, Model, Heap, Lfts, Shares, GhostRules, Running, emp, factI}
+use Rattle.walks.proofs.Prelude.{_$_, !, by, keep, of-opd, Args, AllReal, Body, exits, meets, leaves, copies-field}
+use Rattle.walks.proofs.Prelude.{sets, gives}
+use Rattle.rows.proofs.{Functions.count-fn, count.{Key.name as key, Statement.statement}}
 use Rattle.rows.proofs.count as this
-use Rattle.rows.proofs.count.Key.{name as key}
-use Rattle.rows.proofs.count.Statement.{statement}
 use Rattle.rows.proofs.count.Code as code
 
 module _ {M : Type 1} (𝓤 : URA M) (H : Heap 𝓤) (𝓜 : Model 𝓤 H) (𝓖 : GhostRules 𝓤 H) (𝓡 : Running 𝓤 H 𝓜)

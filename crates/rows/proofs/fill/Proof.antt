@@ -1,26 +1,24 @@
 -- `fill`: at i, the records before i are idle. The row is lent again for each `put`.
 use Rattle.walks.proofs.Prelude.{_≡_, refl, sym, ap, _∙_, subst, List, [], _∷_, none, some, ℕ, suc, _+_, _<_, _^_}
-use Rattle.walks.proofs.Prelude.{lt-of-le-of-lt, le-antisymm, add-one, arith, lit<, ltb→lt, nltb→le, length}
-use Rattle.walks.proofs.Prelude.{URA, fullShare, Model, Heap, Env, Lfts, Shares, GhostRules, Running, givenOf, Given}
-use Rattle.walks.proofs.Prelude.{Item, SProp, ent, named, w64, Val, vint, vunit, RefT, at-last, Room, sliceVal, finally}
-use Rattle.walks.proofs.Prelude.{emp, id⊢, factI, ‵, ⋆, atRet, _$_, _∵_, !, qed, by, move, use1, of-opd, lit, unit-lit}
-use Rattle.walks.proofs.Prelude.{bin}
+use Rattle.walks.proofs.Prelude.{lt-of-le-of-lt, le-antisymm, add-one, arith, lit<, ltb→lt, nltb→le, length, URA}
+use Rattle.walks.proofs.Prelude.{fullShare, Model, Heap, Env, Lfts, Shares, GhostRules, Running, givenOf, Given, Item}
+use Rattle.walks.proofs.Prelude.{SProp, ent, named, w64, Val, vint, vunit, RefT, at-last, Room, sliceVal, finally, emp}
+use Rattle.walks.proofs.Prelude.{id⊢, factI, ‵, ⋆, atRet, _$_, _∵_, !, qed, by, move, use1, of-opd, lit, unit-lit, bin}
 use Rattle.walks.proofs.Prelude.{Args, AllReal, Real, typed, brought, Post, Body, hears, calls, exits, meets, placed}
 use Rattle.walks.proofs.Prelude.{standing, leaves, copies, copies-all, points-to, refers, means, vacates, sets}
 use Rattle.walks.proofs.Prelude.{resets-last, lands-in, gives, parts, then-skip, under, lends-again, comes-back}
 use Rattle.walks.proofs.Prelude.{settled, Turn, in-code, goes-on, stops, counts}
-use Rattle.machine.specs.Records as records
 use Rattle.machine.specs.declared.Record.{Record}
 use Rattle.rows.specs.Rows.{cleared}
 use Rattle.rows.proofs.Cleared.{cleared-next, cleared-length}
 use Rattle.rows.proofs.Functions.{R, record-data, idle-fn, put-fn, fill-fn}
+use Rattle.rows.proofs.fill.{Key.name as key, Statement.statement}
+use Rattle.machine.specs.Records as records
 use Rattle.rows.proofs.idle.Symbol as idle
 use Rattle.rows.proofs.idle.Met as idle-met
 use Rattle.rows.proofs.put.Symbol as put
 use Rattle.rows.proofs.put.Met as put-met
 use Rattle.rows.proofs.fill as this
-use Rattle.rows.proofs.fill.Key.{name as key}
-use Rattle.rows.proofs.fill.Statement.{statement}
 use Rattle.rows.proofs.fill.Code as code
 use Rattle.rows.proofs.fill.Code.Mir as code-mir
 

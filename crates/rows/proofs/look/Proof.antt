@@ -1,24 +1,21 @@
 -- `look`: the length, one pass, and the task's own record.
-use Rattle.walks.proofs.Prelude.{refl, List, [], _∷_, _<_, _^_, arith, length}
-use Rattle.walks.proofs.Prelude.{URA, Model, Heap, Lfts, Shares, GhostRules, Running, givenOf, Given, RefT, Room, owed}
-use Rattle.walks.proofs.Prelude.{owes}
-use Rattle.walks.proofs.Prelude.{emp, id⊢, factI, _$_, !, by, keep, agg, un, and-then, no-more}
-use Rattle.walks.proofs.Prelude.{Args, AllReal, Real, typed, Body, hears, calls, exits, meets, leaves, copies}
-use Rattle.walks.proofs.Prelude.{copies-all, copies-field, sets, lands-in, gives}
+use Rattle.walks.proofs.Prelude.{refl, List, [], _∷_, _<_, _^_, arith, length, URA, Model, Heap, Lfts, Shares}
+use Rattle.walks.proofs.Prelude.{GhostRules, Running, givenOf, Given, RefT, Room, owed, owes, emp, id⊢, factI, _$_, ! }
+use Rattle.walks.proofs.Prelude.{by, keep, agg, un, and-then, no-more, Args, AllReal, Real, typed, Body, hears, calls}
+use Rattle.walks.proofs.Prelude.{exits, meets, leaves, copies, copies-all, copies-field, sets, lands-in, gives}
 use lib.ListN.{getD}
+use Rattle.machine.specs.{Memory.viewOf, declared.{Record.Record, Settings.Settings, TaskId.TaskId, View.View}}
+use Rattle.rows.specs.{Rows.seenTo, declared.Seen.Seen}
+use Rattle.rows.proofs.Functions.{R, record-data, task-data, seen-data, view-data, idle-fn, count-fn, pass-fn}
+use Rattle.rows.proofs.Functions.{take-fn, look-fn}
+use Rattle.rows.proofs.look.{Key.name as key, Statement.statement}
 use Rattle.machine.specs.Records as records
-use Rattle.machine.specs.Memory.{viewOf}
-use Rattle.machine.specs.declared.{Record.Record, Settings.Settings, TaskId.TaskId, View.View}
 use Rattle.machine.proofs.TaskId as I
 use Rattle.machine.proofs.TaskId.Laws as I′
 use Rattle.machine.proofs.View as V₁
 use Rattle.machine.proofs.View.Laws as V₁′
-use Rattle.rows.specs.Rows.{seenTo}
-use Rattle.rows.specs.declared.Seen.{Seen}
 use Rattle.rows.proofs.Seen as N
 use Rattle.rows.proofs.Seen.Laws as N′
-use Rattle.rows.proofs.Functions.{R, record-data, task-data, seen-data, view-data}
-use Rattle.rows.proofs.Functions.{idle-fn, count-fn, pass-fn, take-fn, look-fn}
 use Rattle.rows.proofs.idle.Symbol as idle
 use Rattle.rows.proofs.idle.Met as idle-met
 use Rattle.rows.proofs.count.Symbol as count
@@ -28,8 +25,6 @@ use Rattle.rows.proofs.pass.Met as pass-met
 use Rattle.rows.proofs.take.Symbol as take
 use Rattle.rows.proofs.take.Met as take-met
 use Rattle.rows.proofs.look as this
-use Rattle.rows.proofs.look.Key.{name as key}
-use Rattle.rows.proofs.look.Statement.{statement}
 use Rattle.rows.proofs.look.Code as code
 
 module _ {M : Type 1} (𝓤 : URA M) (H : Heap 𝓤) (𝓜 : Model 𝓤 H) (𝓖 : GhostRules 𝓤 H) (𝓡 : Running 𝓤 H 𝓜)

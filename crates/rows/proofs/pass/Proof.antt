@@ -1,23 +1,22 @@
 -- `pass`: at i, what is seen is what there is to see of the records before i.
 use Rattle.walks.proofs.Prelude.{_≡_, refl, ap, _∙_, List, [], _∷_, none, some, ℕ, suc, _+_, _<_, _^_, lt-of-le-of-lt}
-use Rattle.walks.proofs.Prelude.{le-antisymm, add-one, arith, lit<, ltb→lt, nltb→le, length}
-use Rattle.walks.proofs.Prelude.{URA, Model, Heap, Env, Lfts, Shares, GhostRules, Running, givenOf, Given, Item, SProp}
-use Rattle.walks.proofs.Prelude.{ent, w64, Val, vint, RefT, sliceVal, owed}
-use Rattle.walks.proofs.Prelude.{emp, id⊢, factI, ⋆, atRet, _$_, !, by, keep, of-opd, lit, un, bin}
-use Rattle.walks.proofs.Prelude.{Args, Lasts, AllReal, Real, typed, brought, left, Post, Body, hears, calls, exits}
+use Rattle.walks.proofs.Prelude.{le-antisymm, add-one, arith, lit<, ltb→lt, nltb→le, length, URA, Model, Heap, Env}
+use Rattle.walks.proofs.Prelude.{Lfts, Shares, GhostRules, Running, givenOf, Given, Item, SProp, ent, w64, Val, vint}
+use Rattle.walks.proofs.Prelude.{RefT, sliceVal, owed, emp, id⊢, factI, ⋆, atRet, _$_, !, by, keep, of-opd, lit, un}
+use Rattle.walks.proofs.Prelude.{bin, Args, Lasts, AllReal, Real, typed, brought, left, Post, Body, hears, calls, exits}
 use Rattle.walks.proofs.Prelude.{meets, placed, standing, leaves, copies, copies-all, copies-field, means, vacates}
 use Rattle.walks.proofs.Prelude.{sets, resets-last, lands-in, lands-over, gives, parts, then-skip, Turn, in-code}
 use Rattle.walks.proofs.Prelude.{goes-on, stops, counts}
 use lib.ListN.{getD}
-use Rattle.machine.specs.Records as records
 use Rattle.machine.specs.declared.{Record.Record, Settings.Settings}
+use Rattle.rows.specs.{Rows.seenTo, declared.Seen.Seen}
+use Rattle.rows.proofs.Passed.{count-le, seen-none, seen-next}
+use Rattle.rows.proofs.Functions.{record-data, settings-data, seen-data, idle-fn, start-fn, take-fn, step-fn}
+use Rattle.rows.proofs.Functions.{pass-fn}
+use Rattle.rows.proofs.pass.{Key.name as key, Statement.statement}
+use Rattle.machine.specs.Records as records
 use Rattle.machine.proofs.Settings as S
 use Rattle.machine.proofs.Settings.Laws as S′
-use Rattle.rows.specs.Rows.{seenTo}
-use Rattle.rows.specs.declared.Seen.{Seen}
-use Rattle.rows.proofs.Passed.{count-le, seen-none, seen-next}
-use Rattle.rows.proofs.Functions.{record-data, settings-data, seen-data}
-use Rattle.rows.proofs.Functions.{idle-fn, start-fn, take-fn, step-fn, pass-fn}
 use Rattle.rows.proofs.idle.Symbol as idle
 use Rattle.rows.proofs.idle.Met as idle-met
 use Rattle.rows.proofs.start.Symbol as start
@@ -27,8 +26,6 @@ use Rattle.rows.proofs.take.Met as take-met
 use Rattle.rows.proofs.step.Symbol as step
 use Rattle.rows.proofs.step.Met as step-met
 use Rattle.rows.proofs.pass as this
-use Rattle.rows.proofs.pass.Key.{name as key}
-use Rattle.rows.proofs.pass.Statement.{statement}
 use Rattle.rows.proofs.pass.Code as code
 use Rattle.rows.proofs.pass.Code.Mir as code-mir
 

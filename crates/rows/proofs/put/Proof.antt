@@ -1,17 +1,14 @@
 -- `put`: within the row the element is written; past the end nothing is.
-use Rattle.walks.proofs.Prelude.{_≡_, refl, sym, ap, _∙_, List, [], _∷_, ℕ, _<_, ltb→lt, nltb→le, length}
-use Rattle.walks.proofs.Prelude.{URA, Model, Heap, Lfts, Shares, GhostRules, Running, givenOf, Given, Item, ent, named}
-use Rattle.walks.proofs.Prelude.{vunit, RefT, at-last, Room, finally}
-use Rattle.walks.proofs.Prelude.{emp, factI, ‵, ⋆, _$_, _∵_, !, qed, by, move, use1, of-opd, lit, unit-lit, bin}
-use Rattle.walks.proofs.Prelude.{Args, AllReal, brought, Post, Body, exits, meets, leaves, copies, copies-field, sets}
-use Rattle.walks.proofs.Prelude.{gives, parts, then-set, then-skip, place-fits, writes-element, settled}
-use lib.ListN.{set, length-set}
-use lib.Seq.{set-out}
+use Rattle.walks.proofs.Prelude.{_≡_, refl, sym, ap, _∙_, List, [], _∷_, ℕ, _<_, ltb→lt, nltb→le, length, URA, Model}
+use Rattle.walks.proofs.Prelude.{Heap, Lfts, Shares, GhostRules, Running, givenOf, Given, Item, ent, named, vunit, RefT}
+use Rattle.walks.proofs.Prelude.{at-last, Room, finally, emp, factI, ‵, ⋆, _$_, _∵_, !, qed, by, move, use1, of-opd}
+use Rattle.walks.proofs.Prelude.{lit, unit-lit, bin, Args, AllReal, brought, Post, Body, exits, meets, leaves, copies}
+use Rattle.walks.proofs.Prelude.{copies-field, sets, gives, parts, then-set, then-skip, place-fits, writes-element}
+use Rattle.walks.proofs.Prelude.{settled}
+use lib.{ListN.{set, length-set}, Seq.set-out}
 use Rattle.machine.specs.declared.Record.{Record}
-use Rattle.rows.proofs.Functions.{R, record-data, put-fn}
+use Rattle.rows.proofs.{Functions.{R, record-data, put-fn}, put.{Key.name as key, Statement.statement}}
 use Rattle.rows.proofs.put as this
-use Rattle.rows.proofs.put.Key.{name as key}
-use Rattle.rows.proofs.put.Statement.{statement}
 use Rattle.rows.proofs.put.Code as code
 
 module _ {M : Type 1} (𝓤 : URA M) (H : Heap 𝓤) (𝓜 : Model 𝓤 H) (𝓖 : GhostRules 𝓤 H) (𝓡 : Running 𝓤 H 𝓜)

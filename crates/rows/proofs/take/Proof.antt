@@ -1,16 +1,13 @@
 -- `take`: within the row the element is read; past the end it is the record passed for that.
-use Rattle.walks.proofs.Prelude.{_≡_, refl, sym, List, [], _∷_, ℕ, _<_, ltb→lt, nltb→le, length}
-use Rattle.walks.proofs.Prelude.{URA, Model, Heap, Lfts, Shares, GhostRules, Running, givenOf, Given, ent, named, RefT}
-use Rattle.walks.proofs.Prelude.{Room}
-use Rattle.walks.proofs.Prelude.{emp, factI, ⋆, _$_, !, by, keep, of-opd, lit, bin}
-use Rattle.walks.proofs.Prelude.{Args, Lasts, AllReal, Real, typed, left, Post, Body, exits, meets, leaves, copies}
-use Rattle.walks.proofs.Prelude.{copies-field, sets, gives, parts, then-set, place-fits, reads-element}
+use Rattle.walks.proofs.Prelude.{_≡_, refl, sym, List, [], _∷_, ℕ, _<_, ltb→lt, nltb→le, length, URA, Model, Heap, Lfts}
+use Rattle.walks.proofs.Prelude.{Shares, GhostRules, Running, givenOf, Given, ent, named, RefT, Room, emp, factI, ⋆}
+use Rattle.walks.proofs.Prelude.{_$_, !, by, keep, of-opd, lit, bin, Args, Lasts, AllReal, Real, typed, left, Post}
+use Rattle.walks.proofs.Prelude.{Body, exits, meets, leaves, copies, copies-field, sets, gives, parts, then-set}
+use Rattle.walks.proofs.Prelude.{place-fits, reads-element}
 use lib.ListN.{getD, List·getD-eq-default}
 use Rattle.machine.specs.declared.Record.{Record}
-use Rattle.rows.proofs.Functions.{R, record-data, take-fn}
+use Rattle.rows.proofs.{Functions.{R, record-data, take-fn}, take.{Key.name as key, Statement.statement}}
 use Rattle.rows.proofs.take as this
-use Rattle.rows.proofs.take.Key.{name as key}
-use Rattle.rows.proofs.take.Statement.{statement}
 use Rattle.rows.proofs.take.Code as code
 
 module _ {M : Type 1} (𝓤 : URA M) (H : Heap 𝓤) (𝓜 : Model 𝓤 H) (𝓖 : GhostRules 𝓤 H) (𝓡 : Running 𝓤 H 𝓜)

@@ -1,12 +1,10 @@
 -- `bad_mark` answers as the search does: where the largest mark is at most 1 there is nothing to find.
 use mathlib.Core.Path.{_∙_}
-use native.Mathlib.Nat.{le-trans}
-use native.Mathlib.Omega.{arith}
+use native.Mathlib.{Nat.le-trans, Omega.arith}
 use borrow.Author.Needs.{needs}
 use denote.Ref.{now}
 use Rattle.machine.specs.Memory.{marksNeeded}
-use Rattle.rules.proofs.Finding.{stops-at-none}
-use Rattle.rules.proofs.bad_mark.Statement.{statement}
+use Rattle.rules.proofs.{Finding.stops-at-none, bad_mark.Statement.statement}
 use Rattle.rules.proofs.bad_mark.Tie as tie
 
 returns : tie.Need-returns

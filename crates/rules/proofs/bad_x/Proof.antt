@@ -4,9 +4,8 @@ use Prim.Native.Nat.{_-_, _≤_}
 use native.Mathlib.Omega.{arith}
 use borrow.Author.Needs.{needs}
 use denote.Ref.{now}
-use Rattle.rules.proofs.Finding.{Low, low-more, stops-at-first, stops-at-none}
+use Rattle.rules.proofs.{Finding.{Low, low-more, stops-at-first, stops-at-none}, bad_x.Statement.statement}
 use Rattle.machine.specs.Places.{blocks}
-use Rattle.rules.proofs.bad_x.Statement.{statement}
 use Rattle.rules.proofs.bad_x.Tie as tie
 
 abbrev Inv-loop : tie.InvT-loop

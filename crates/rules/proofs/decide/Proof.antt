@@ -2,13 +2,10 @@
 -- record, and the value read gives the next.
 use mathlib.Core.Path.{_≡_, _∙_, sym}
 use denote.Ref.{now}
-use Rattle.machine.specs.Memory.{Memory}
-use Rattle.machine.specs.declared.Verdict.{Verdict}
-use Rattle.machine.proofs.Tests.{tests}
+use Rattle.machine.{specs.{Memory.Memory, declared.Verdict.Verdict}, proofs.Tests.tests}
 use Rattle.rules.specs.Decision.{rows, seenVerdict}
 use Rattle.rules.proofs.Deciding.{refused-decided, accepted-decided}
-use Rattle.rules.proofs.Accepting.{Accepts, accepts, touch-needed, next-in-range}
-use Rattle.rules.proofs.decide.Statement.{statement}
+use Rattle.rules.proofs.{Accepting.{Accepts, accepts, touch-needed, next-in-range}, decide.Statement.statement}
 use Rattle.rules.proofs.decide.Tie as tie
 
 abbrev registers : tie.Start → Memory
@@ -53,7 +50,8 @@ returns : tie.Need-returns
 returns c =
     let a = c .before .before .before .before .before .before .before .before .before .before in
     let refused = sym (c .before .before .before .verdict .ensures) ∙ c .before .why .given .1 in
-    refused-decided (a .args .s) (a .args .event .kind) (a .args .event .task .0) (a .args .seen) (registers a) _ refused
+    refused-decided (a .args .s) (a .args .event .kind) (a .args .event .task .0) (a .args .seen)
+    (registers a) _ refused
 
 returns-2 : tie.Need-returns-2
 returns-2 c =

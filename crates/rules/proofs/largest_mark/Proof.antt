@@ -5,8 +5,7 @@ use borrow.Author.Needs.{needs}
 use mathlib.Core.Logic.{⊎-elim}
 use lib.ListN.{getD}
 use denote.Ref.{now}
-use Rattle.rules.proofs.Finding.{Low, low-more, low-wider}
-use Rattle.rules.proofs.largest_mark.Statement.{statement}
+use Rattle.rules.proofs.{Finding.{Low, low-more, low-wider}, largest_mark.Statement.statement}
 use Rattle.rules.proofs.largest_mark.Tie as tie
 
 abbrev Inv-loop : tie.InvT-loop

@@ -1,11 +1,8 @@
 -- `lent_verdict` is the definition's: first the limits, then the rows.
-use mathlib.Core.Path.{_≡_, _∙_, sym}
-use mathlib.Core.Bool.{Bool, true, false}
+use mathlib.Core.{Path.{_≡_, _∙_, sym}, Bool.{Bool, true, false}}
 use borrow.Author.Tests.{not-true, not-false}
 use denote.Ref.{now}
-use Rattle.machine.specs.Settings.{permitted}
-use Rattle.machine.specs.Refusals.{rowShort}
-use Rattle.machine.proofs.Tests.{tests}
+use Rattle.machine.{specs.{Settings.permitted, Refusals.rowShort}, proofs.Tests.tests}
 use Rattle.rules.proofs.lent_verdict.Statement.{statement}
 use Rattle.rules.proofs.lent_verdict.Tie as tie
 

@@ -1,15 +1,11 @@
 -- `range_verdict` is the definition's: the first bad record, then the first bad X number, then the first bad mark.
-use mathlib.Core.Path.{_≡_, _∙_, sym, ap₂}
-use mathlib.Core.Bool.{Bool, true, false}
+use mathlib.Core.{Path.{_≡_, _∙_, sym, ap₂}, Bool.{Bool, true, false}}
 use lib.Dec.{ltb}
 use borrow.Author.Tests.{lt-ltb, le-ltb}
 use denote.Ref.{now}
-use Rattle.machine.specs.Places.{blocks}
-use Rattle.machine.specs.Memory.{marksNeeded, badX, badMark}
-use Rattle.machine.proofs.Tests.{tests}
+use Rattle.machine.{specs.{Places.blocks, Memory.{marksNeeded, badX, badMark}}, proofs.Tests.tests}
 use Rattle.rules.specs.Decision.{rows}
-use Rattle.rules.proofs.Rows.{Long, none-short}
-use Rattle.rules.proofs.range_verdict.Statement.{statement}
+use Rattle.rules.proofs.{Rows.{Long, none-short}, range_verdict.Statement.statement}
 use Rattle.rules.proofs.range_verdict.Tie as tie
 
 -- whether a row has a bad value

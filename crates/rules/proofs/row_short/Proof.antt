@@ -1,12 +1,9 @@
 -- `row_short` is the definition's: the first row that is short decides.
-use mathlib.Core.Path.{_≡_, _∙_, sym, ap}
-use mathlib.Core.Bool.{Bool, true, false}
-use lib.Dec.{ltb}
-use lib.ListN.{length}
+use mathlib.Core.{Path.{_≡_, _∙_, sym, ap}, Bool.{Bool, true, false}}
+use lib.{Dec.ltb, ListN.length}
 use borrow.Author.Tests.{lt-ltb, le-ltb}
 use denote.Ref.{now}
-use Rattle.machine.specs.Places.{blocks}
-use Rattle.machine.proofs.Tests.{tests}
+use Rattle.machine.{specs.Places.blocks, proofs.Tests.tests}
 use Rattle.rules.proofs.row_short.Statement.{statement}
 use Rattle.rules.proofs.row_short.Tie as tie
 

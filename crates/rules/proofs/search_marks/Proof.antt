@@ -1,8 +1,7 @@
 -- `search_marks` stops at the first mark above 1: everything passed, block by block and place by place, is at most 1.
 use mathlib.Core.Path.{_≡_, _∙_}
 use Prim.Native.Nat.{_+_, _-_, _*_, _≤_, _<_}
-use native.Mathlib.Nat.{zero-mul}
-use native.Mathlib.Omega.{arith}
+use native.Mathlib.{Nat.zero-mul, Omega.arith}
 use borrow.Author.Needs.{needs}
 use denote.Ref.{now}
 use Rattle.machine.specs.Memory.{marksNeeded}

@@ -2,12 +2,9 @@
 use mathlib.Core.Path.{_≡_, _∙_, sym, ap}
 use native.Mathlib.Omega.{arith}
 use denote.Ref.{now}
-use Rattle.machine.specs.Memory.{Memory, fill}
-use Rattle.machine.specs.declared.Verdict.{Verdict}
-use Rattle.machine.proofs.Tests.{tests}
+use Rattle.machine.{specs.{Memory.{Memory, fill}, declared.Verdict.Verdict}, proofs.Tests.tests}
 use Rattle.rules.specs.Decision.{rows, seenSetupVerdict}
-use Rattle.rules.proofs.Rows.{Lent, lent-passes}
-use Rattle.rules.proofs.setup.Statement.{statement}
+use Rattle.rules.proofs.{Rows.{Lent, lent-passes}, setup.Statement.statement}
 use Rattle.rules.proofs.setup.Tie as tie
 
 abbrev registers : tie.Start → Memory
@@ -55,7 +52,8 @@ returns-2 c =
     let a = start told .args in
     let xs = xs-done .clear-xs .ensures ∙ ap (λ n. fill n 0 (now (a .xs))) (xs-done .before .blocks2 .ensures) in
     let marks =
-    marks-done .clear-marks .ensures ∙ ap (λ n. fill n 0 (now (a .marks))) (marks-done .before .marks-needed .ensures) in
+    marks-done .clear-marks .ensures ∙ ap (λ n. fill n 0 (now (a .marks)))
+    (marks-done .before .marks-needed .ensures) in
     rw (accepted told, xs, marks)
 
 pub setup-spec : {M : Type 1} → statement M

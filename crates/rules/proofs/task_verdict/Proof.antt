@@ -1,9 +1,7 @@
 -- `task_verdict` is the definition's: 4, 5, 6, 7, the first that holds.
-use mathlib.Core.Path.{_≡_, _∙_, sym}
-use mathlib.Core.Bool.{Bool, true, false}
+use mathlib.Core.{Path.{_≡_, _∙_, sym}, Bool.{Bool, true, false}}
 use borrow.Author.Tests.{lt-leb}
-use Rattle.machine.specs.Refusals.{noSuchTask, oneTimeRelease, wrongMoment, tooManyOut}
-use Rattle.machine.proofs.Tests.{tests}
+use Rattle.machine.{specs.Refusals.{noSuchTask, oneTimeRelease, wrongMoment, tooManyOut}, proofs.Tests.tests}
 use Rattle.rules.proofs.task_verdict.Statement.{statement}
 use Rattle.rules.proofs.task_verdict.Tie as tie
 

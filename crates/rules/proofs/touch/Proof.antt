@@ -1,9 +1,8 @@
 -- `touch` makes the definition's one access: in each arm the register is inside its row, and one element is read or
 -- written.
 use native.Mathlib.Omega.{arith}
-use Rattle.rules.proofs.Touching.{x-read, x-written, mark-read, mark-written}
+use Rattle.rules.proofs.{Touching.{x-read, x-written, mark-read, mark-written}, touch.Statement.statement}
 use Rattle.machine.proofs.Tests.{tests}
-use Rattle.rules.proofs.touch.Statement.{statement}
 use Rattle.rules.proofs.touch.Tie as tie
 
 mul-result : tie.Need-mul-result

@@ -1,14 +1,10 @@
 -- `verdict` is the definition's, by its three parts: what is lent, what it holds, the task.
-use mathlib.Core.Path.{_≡_, _∙_, sym}
-use mathlib.Core.List.{[]}
+use mathlib.Core.{Path.{_≡_, _∙_, sym}, List.[]}
 use denote.Ref.{now}
-use Rattle.machine.specs.Memory.{Memory}
-use Rattle.machine.specs.Refusals.{first, rangeCases, taskCases}
-use Rattle.machine.specs.declared.Verdict.{Verdict}
+use Rattle.machine.specs.{Memory.Memory, Refusals.{first, rangeCases, taskCases}, declared.Verdict.Verdict}
 use Rattle.machine.proofs.Tests.{tests}
 use Rattle.rules.specs.Decision.{rows, seenVerdict, seenSetupVerdict}
-use Rattle.rules.proofs.Rows.{then, lent-passes, verdict-parts}
-use Rattle.rules.proofs.verdict.Statement.{statement}
+use Rattle.rules.proofs.{Rows.{then, lent-passes, verdict-parts}, verdict.Statement.statement}
 use Rattle.rules.proofs.verdict.Tie as tie
 
 abbrev registers : tie.Start → Memory

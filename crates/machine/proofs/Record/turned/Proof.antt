@@ -1,5 +1,5 @@
 -- A record's turn is the definition's `nextRecord`: a seeking record by what the turn at its point ensures.
-use Rattle.machine.proofs.{Tests.tests, Ranges.{seeks-on-block, seeks-at-point}}
+use Rattle.machine.proofs.{Tests.tests, refusals.Ranges.{seeks-on-block, seeks-at-point}}
 use Rattle.machine.proofs.Record.turned.Statement.{statement}
 use Rattle.machine.proofs.Record.turned.Tie as tie
 

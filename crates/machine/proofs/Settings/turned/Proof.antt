@@ -1,8 +1,8 @@
 -- The turn at a point is the definition's `pointTurned`: in each arm by the law of that point (`Turning`).
 use mathlib.Core.Path.{_∙_, sym}
 use native.Mathlib.Omega.{arith}
-use Rattle.machine.proofs.{Tests.tests, Ranges.scans-a-mark}
-use Rattle.machine.proofs.Turning.{scan-marked, scan-done, scan-on, reads-own, reads-other}
+use Rattle.machine.proofs.{Tests.tests, refusals.Ranges.scans-a-mark}
+use Rattle.machine.proofs.bridge.Turning.{scan-marked, scan-done, scan-on, reads-own, reads-other}
 use Rattle.machine.proofs.Settings.turned.Statement.{statement}
 use Rattle.machine.proofs.Settings.turned.Tie as tie
 

@@ -23,7 +23,8 @@ use denote.{Steps.{opens, closes, owned, peeks, nothing}, Struct.{Rest.own-put, 
 use denote.Triple.{Call.calls-at, Clauses.Clauses, Entry.onEntry, Statement.{Contract, Triple}, Table.cited}
 use denote.Triple.Walked.{says, Stays, stay-ref, walkOf, goes-ref, Walks, ends-at, walked}
 use Rattle.schedule.specs.{Asked.readerAt, declared.{Next.Next, Reader.Reader}}
-use Rattle.schedule.proofs.Readers.{lifetime, readers, reader-type, reader-laws, nexts, answers, next-value, next-tells, answer-value, answer-is, next-fits, file-room, position-fits}
+use Rattle.schedule.proofs.Readers.{lifetime, readers, reader-type, reader-laws, nexts, answers, next-value}
+use Rattle.schedule.proofs.Readers.{next-tells, answer-value, answer-is, next-fits, file-room, position-fits}
 use Rattle.schedule.proofs.Result.{Comes, comes}
 use Rattle.schedule.proofs.EventCall.{standing, EventAt, event-passed, event-asks, event-ensures, event-says}
 use Rattle.schedule.proofs.{Closing.{rules, calls, loops, framed, shown}, event_at.Symbol.name as #event-at}

@@ -1,0 +1,9 @@
+-- The memory seen as the grid of the crate `grid`: a call is a step of it, and its invariants hold after every history.
+pub mod Numbering
+pub mod Numbers
+pub mod Turning
+pub mod Arriving
+pub mod Seen
+pub mod Steps
+pub mod Histories
+pub mod Names

@@ -1,0 +1,188 @@
+-- Histories: what holds after setup and is kept by every call, accepted or refused, holds after every list of calls.
+use mathlib.Core.{Path.{_≡_, refl, ap}, Bool.{true≢false, false}, List.{List, [], _∷_, _++_}}
+use Prim.Native.Nat.{ℕ, suc, _≤_, _<_, zero-le}
+use native.Mathlib.{Nat.{le-trans, not-suc-le-zero}, Decide.ℕ-discrete, Omega.arith}
+use lib.Dec.{T}
+use borrow.Author.Tests.{leb-false}
+use Rattle.machine.specs.{Settings.width, Records.isOut, Memory.{Memory, marksNeeded, stateOf, outOf, fill}}
+use Rattle.machine.specs.{Refusals.wrongMoment, Calls.{Outcome, call, accept, setup}}
+use Rattle.machine.specs.History.{run, Answered, history}
+use Rattle.machine.specs.promises.{Demands.{SetUp, memoryAfter}, Ranges.WithinLimits}
+use Rattle.machine.specs.declared.{Settings.Settings, State.{State, the-variants.{Idle, Seeking, Holding}}}
+use Rattle.machine.specs.declared.{Kind.{Kind, the-variants.{Ask, Turn, Release}}, Event.Event}
+use Rattle.counting.specs.Counting.{count}
+use Rattle.counting.proofs.{Bools.is-false, Searching.count-none, Counting.{count-most, count-but-one}}
+use Rattle.machine.proofs.calls.Fresh.{fill-at, setup-within, setup-memory, fresh-idle, fresh-none-out}
+use Rattle.machine.proofs.calls.Fresh.{fresh-fit}
+use Rattle.machine.proofs.calls.{Outcomes.{Called, taken, refused, called}, Fitting.accept-fits}
+use Rattle.machine.proofs.bridge.Seen.{rulesOf, standOf, gridOf, all-unmarked}
+use Rattle.machine.proofs.bridge.Steps.{in-place, others-after, accepted-step}
+use Rattle.machine.proofs.refusals.{Passed.{Fit, May}, Refusing.ruled}
+use Rattle.grid.proofs.{Cover.{beyond, beyond-out}, Stands.{Rules, idle, Grid, Marks, HoldsAt, columnReach}}
+use Rattle.grid.proofs.{Covered.reachOf, Invariant.{AllInPlace, Invariant, invariant-kept}}
+
+-- ---- lists of calls
+
+-- what every call keeps, every list of calls keeps
+pub run-keeps : (s : Settings) (Kept : Memory → Type 0)
+    → ((event : Event) (m : Memory) → Kept m → Kept (call s event m .memory))
+    → (events : List Event) (m : Memory) → Kept m → Kept (run s events m)
+run-keeps s Kept step [] m h = h
+run-keeps s Kept step (event ∷ events) m h = run-keeps s Kept step events (call s event m .memory) (step event m h)
+
+pub run-append : (s : Settings) (events more : List Event) (m : Memory)
+    → run s (events ++ more) m ≡ run s more (run s events m)
+run-append s [] more m = refl
+run-append s (event ∷ events) more m = run-append s events more (call s event m .memory)
+
+pub history-append : (s : Settings) (events more : List Event) (m : Memory)
+    → history s (events ++ more) m ≡ history s events m ++ history s more (run s events m)
+history-append s [] more m = refl
+history-append s (event ∷ events) more m =
+    ap (λ (rest : List Answered). record { event = event; answer = call s event m .answer } ∷ rest)
+    (history-append s events more (call s event m .memory))
+
+-- ---- the invariants of a history
+
+module _ (s : Settings) (fair : WithinLimits s) where
+  abbrev pub rules : Rules
+  rules = rulesOf s fair
+
+  -- J0 to J3, where at most m are out at once
+  pub record Invariants (m : ℕ) (memory : Memory) : Type 0 where
+    pub fit : Fit s memory
+    pub invariant : Invariant rules m (gridOf s memory)
+
+  pub all-in-place : (memory : Memory) → Fit s memory → AllInPlace rules (gridOf s memory)
+  all-in-place memory h q l = in-place s fair (stateOf memory q) (h .in-range .records q l)
+
+  -- who reaches anywhere is out
+  reaches-out : (state : State) → 0 < columnReach (standOf (width s) state) → T (isOut state)
+  reaches-out Idle l = absurd (not-suc-le-zero l)
+  reaches-out (Seeking r c point) l = tt
+  reaches-out (Holding r c) l = tt
+
+  cover-out : (memory : Memory) → count (beyond (reachOf (gridOf s memory)) 0 0) (s .n) ≤ outOf s (memory .records)
+  cover-out memory =
+      count-most (beyond (reachOf (gridOf s memory)) 0 0) (λ q. isOut (stateOf memory q)) (s .n)
+      (λ q _ t. reaches-out (stateOf memory q) (beyond-out (reachOf (gridOf s memory)) 0 0 q t .1))
+
+  -- a call keeps them, as long as no more than m are out
+  pub invariants-kept : (m : ℕ) (event : Event) (memory : Memory) → Invariants m memory
+      → outOf s (call s event memory .memory .records) ≤ m
+      → Invariants m (call s event memory .memory)
+  invariants-kept m event memory g = go (call s event memory) (called s fair event memory (g .fit))
+    where
+      go : (outcome : Outcome) → Called s event memory outcome → outOf s (outcome .memory .records) ≤ m
+          → Invariants m (outcome .memory)
+      go outcome (refused why) few = g
+      go outcome (taken o) few = record {
+        fit = accept-fits s fair (event .kind) (event .task .0) memory (g .fit) (o .known) (o .moment);
+        invariant = invariant-kept rules m (gridOf s memory) (gridOf s (ruled s event memory .memory))
+            (accepted-step s fair memory (g .fit) (event .task .0) (o .known) (event .kind) (o .lived) (o .moment))
+            (all-in-place memory (g .fit)) (le-trans (cover-out (ruled s event memory .memory)) few) (g .invariant);
+      }
+
+  -- ---- never more than k out
+
+  turn-out : (state : State) → wrongMoment Turn state ≡ false → T (isOut state)
+  turn-out Idle e = absurd (true≢false e)
+  turn-out (Seeking r c point) e = tt
+  turn-out (Holding r c) e = tt
+
+  release-out : (state : State) → wrongMoment Release state ≡ false → T (isOut state)
+  release-out Idle e = absurd (true≢false e)
+  release-out (Seeking r c point) e = tt
+  release-out (Holding r c) e = tt
+
+  module _ (kind : Kind) (p : ℕ) (memory : Memory) (sound : Fit s memory) (below : p < s .n) where
+    still-out : (q : ℕ) → (q ≡ p → ⊥) → T (isOut (stateOf (accept s kind p (stateOf memory p) memory .memory) q))
+        → T (isOut (stateOf memory q))
+    still-out q d t = rw (others-after s fair memory sound p below kind (stateOf memory p) q d) at t
+
+    pub one-more-out : outOf s (accept s kind p (stateOf memory p) memory .memory .records) ≤ suc
+        (outOf s (memory .records))
+    one-more-out =
+        count-but-one (λ q. isOut (stateOf (accept s kind p (stateOf memory p) memory .memory) q))
+        (λ q. isOut (stateOf memory q)) (s .n) p
+        (λ q _ d t. still-out q d t)
+
+    none-more-out : T (isOut (stateOf memory p))
+        → outOf s (accept s kind p (stateOf memory p) memory .memory .records) ≤ outOf s (memory .records)
+    none-more-out was =
+        count-most (λ q. isOut (stateOf (accept s kind p (stateOf memory p) memory .memory) q))
+        (λ q. isOut (stateOf memory q)) (s .n)
+        (λ q _ t. go q t (ℕ-discrete q p))
+      where
+        go : (q : ℕ) → T (isOut (stateOf (accept s kind p (stateOf memory p) memory .memory) q)) → Dec (q ≡ p)
+            → T (isOut (stateOf memory q))
+        go q t (yes e) = rw e was
+        go q t (no d) = still-out q d t
+
+  accepted-few : (kind : Kind) (p : ℕ) (memory : Memory) → Fit s memory
+      → May s (record { kind = kind; task = record { 0 = p } }) memory
+      → outOf s (memory .records) ≤ s .k → outOf s (accept s kind p (stateOf memory p) memory .memory .records) ≤ s .k
+  accepted-few Ask p memory sound o few =
+      le-trans (one-more-out Ask p memory sound (o .known)) (leb-false (s .k) (outOf s (memory .records)) (o .room))
+  accepted-few Turn p memory sound o few =
+      le-trans (none-more-out Turn p memory sound (o .known) (turn-out (stateOf memory p) (o .moment))) few
+  accepted-few Release p memory sound o few =
+      le-trans (none-more-out Release p memory sound (o .known) (release-out (stateOf memory p) (o .moment))) few
+
+  call-few : (event : Event) (memory : Memory) → Fit s memory → outOf s (memory .records) ≤ s .k
+      → outOf s (call s event memory .memory .records) ≤ s .k
+  call-few event memory sound few = go (call s event memory) (called s fair event memory sound)
+    where
+      go : (outcome : Outcome) → Called s event memory outcome → outOf s (outcome .memory .records) ≤ s .k
+      go outcome (refused why) = few
+      go outcome (taken o) = accepted-few (event .kind) (event .task .0) memory sound o few
+
+  -- ---- every memory of a history
+
+  -- J0 to J3 with m = k, and at most k out
+  pub record InOrder (memory : Memory) : Type 0 where
+    pub invariants : Invariants (s .k) memory
+    pub few : outOf s (memory .records) ≤ s .k
+
+  pub in-order-kept : (event : Event) (memory : Memory) → InOrder memory → InOrder (call s event memory .memory)
+  in-order-kept event memory f =
+      let few = call-few event memory (f .invariants .fit) (f .few) in
+      record { invariants = invariants-kept (s .k) event memory (f .invariants) few; few = few }
+
+  -- ---- setup
+
+  -- a grid where everybody is idle and no mark is set
+  idle-invariant : (m : ℕ) (v : Grid) → ((q : ℕ) → q < s .n → v .stand q ≡ idle) → ((r c l : ℕ) → v .mark r c l ≡ 0)
+      → Invariant rules m v
+  idle-invariant m v nobody unmarked = record {
+    mark-set = λ r c q l b t. absurd (let z : Marks (width s) idle r c = rw (nobody q l) at t in z);
+    mark-owned = λ _ r c q l b e. absurd (omega (arith, unmarked r c (rules .own q)));
+    mark-witnessed = λ _ r c l b h e. absurd (omega (arith, unmarked r c l));
+    holder-alone = λ p q r c lp lq d b h. absurd (let z : HoldsAt idle r c = rw (nobody p lp) at h in z);
+    covered = λ r c l. rw (count-none (beyond (reachOf v) r c) (s .n) (λ q h. is-false (beyond (reachOf v) r c q) (λ t.
+        let z : c < columnReach idle = rw (nobody q h) at (beyond-out (reachOf v) r c q t .1) in not-suc-le-zero z)))
+        (omega arith);
+  }
+
+module _ (s : Settings) (lent : Memory) (ok : SetUp s lent) where
+  pub fresh-unmarked : (r c place : ℕ) → gridOf s (setup s lent .memory) .mark r c place ≡ 0
+  fresh-unmarked =
+      rw (setup-memory s lent ok)
+      (all-unmarked s (setup-within s lent ok) (fill (marksNeeded s) 0 (lent .marks))
+      (λ i l. fill-at (marksNeeded s) i 0 0 (lent .marks) l))
+
+  -- whatever the bound m
+  pub fresh-invariants : (m : ℕ) → Invariants s (setup-within s lent ok) m (setup s lent .memory)
+  fresh-invariants m = record {
+    fit = fresh-fit s lent ok;
+    invariant = idle-invariant s (setup-within s lent ok) m (gridOf s (setup s lent .memory))
+        (λ q l. ap (standOf (width s)) (fresh-idle s lent ok q l)) fresh-unmarked;
+  }
+
+  pub fresh-in-order : InOrder s (setup-within s lent ok) (setup s lent .memory)
+  fresh-in-order = record { invariants = fresh-invariants (s .k); few = rw (fresh-none-out s lent ok) zero-le }
+
+  pub always-in-order : (events : List Event) → InOrder s (setup-within s lent ok) (memoryAfter s lent events)
+  always-in-order events =
+      run-keeps s (InOrder s (setup-within s lent ok)) (in-order-kept s (setup-within s lent ok)) events
+      (setup s lent .memory) fresh-in-order

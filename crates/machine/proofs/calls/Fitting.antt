@@ -1,0 +1,184 @@
+-- J0: after every call of a history the rows are long enough and every needed value is in range, so tests 1 to 3 pass
+-- for good. Every accepted call could break it, and none does: it writes one register and one record, each with a value
+-- in range.
+use mathlib.Core.{Path.{_≡_, refl, subst}, Bool.{Bool, false}, List.{List, [], _∷_}}
+use Prim.Native.Nat.{ℕ, zero, suc, _+_, _≤_, _<_}
+use native.Mathlib.{Decide.{decLe, ℕ-discrete}, Omega.arith}
+use lib.{Dec.{T, leb, leb→le, ltb→lt, le→leb, lt→ltb}, ListN.{getD, set, length-set}}
+use borrow.Author.Tests.{eq-eqb}
+use Rattle.machine.specs.{Settings.width, Records.{idle, pointInRange, stateInRange, recordInRange}}
+use Rattle.machine.specs.Memory.{Memory, markIndex, stateOf, withRecord, withX, withMark, xInRange, markInRange}
+use Rattle.machine.specs.Turn.{access, pointAccess, value, store, arrive, move, leave, pointTurned}
+use Rattle.machine.specs.{Refusals.wrongMoment, Calls.{nextState, accept}}
+use Rattle.machine.specs.declared.{Settings.Settings, Direction.{Direction, the-variants.{Right, Down}}}
+use Rattle.machine.specs.declared.Point.{Point, the-variants.{WriteX, Scan, WriteMark, ReadX, Clear}}
+use Rattle.machine.specs.declared.{State.{State, the-variants.{Idle, Seeking, Holding}}, Record.Record}
+use Rattle.machine.specs.declared.Access.{Access, the-variants.{NoAccess, XRead, XWritten, MarkRead, MarkWritten}}
+use Rattle.machine.specs.declared.Kind.{Kind, the-variants.{Ask, Turn, Release}}
+use Rattle.machine.specs.promises.Ranges.{WithinLimits}
+use Rattle.machine.proofs.refusals.{Passed.Fit, Limits.{mode-most, width-least}}
+use Rattle.machine.proofs.bridge.Turning.{scan-marked, scan-done, scan-on, reads-own, reads-other}
+use Rattle.machine.proofs.bridge.Arriving.{arrive-edge, arrive-block, leave-at-once, leave-clearing}
+use Rattle.machine.proofs.bridge.Arriving.{release-clears, release-nothing}
+use Rattle.counting.proofs.Bools.{and-in, and-l, and-r}
+
+-- ---- what a call writes is in range
+
+-- an access that writes an X or a mark in range, or nothing
+abbrev Writes : Settings → Access → Type 0
+Writes s NoAccess = Unit {0}
+Writes s (XRead block) = Unit {0}
+Writes s (XWritten block v) = T (xInRange s v)
+Writes s (MarkRead block place) = Unit {0}
+Writes s (MarkWritten block place v) = T (markInRange v)
+
+module _ (s : Settings) (l : WithinLimits s) where
+  block-in-range : (r c : ℕ) (point : Point) → r + c + 2 ≤ s .k → T (pointInRange s point)
+      → T (stateInRange s (Seeking r c point))
+  block-in-range r c point b t = and-in (leb (r + c + 2) (s .k)) (pointInRange s point) (le→leb (r + c + 2) (s .k) b) t
+
+  pub arrive-in-range : (r c : ℕ) → r + c + 1 ≤ s .k → T (stateInRange s (arrive s r c))
+  arrive-in-range r c b = go (ℕ-discrete (r + c + 1) (s .k))
+    where
+      go : Dec (r + c + 1 ≡ s .k) → T (stateInRange s (arrive s r c))
+      go (yes e) = subst (λ (to : State). T (stateInRange s to)) (arrive-edge s r c e) (le→leb (r + c + 1) (s .k) b)
+      go (no d) = subst (λ (to : State). T (stateInRange s to)) (arrive-block s r c d)
+          (block-in-range r c WriteX (omega arith) tt)
+
+  move-in-range : (r c : ℕ) (d : Direction) → r + c + 2 ≤ s .k → T (stateInRange s (move s r c d))
+  move-in-range r c Right b = arrive-in-range r (c + 1) (omega arith)
+  move-in-range r c Down b = arrive-in-range (r + 1) c (omega arith)
+
+  leave-in-range : (r c : ℕ) (d : Direction) → r + c + 2 ≤ s .k → T (stateInRange s (leave s r c d))
+  leave-in-range r c d b = go (ℕ-discrete (s .mode) 0)
+    where
+      go : Dec (s .mode ≡ 0) → T (stateInRange s (leave s r c d))
+      go (yes e) = subst (λ (to : State). T (stateInRange s to)) (leave-at-once s r c d e) (move-in-range r c d b)
+      go (no n) =
+          subst (λ (to : State). T (stateInRange s to)) (leave-clearing s r c d n)
+          (block-in-range r c (Clear d) b (rw (eq-eqb (s .mode) 1 (omega (arith, mode-most s l))) tt))
+
+  turned-in-range : (p v r c : ℕ) (point : Point) → r + c + 2 ≤ s .k → T (pointInRange s point)
+      → T (stateInRange s (pointTurned s p r c point v))
+  turned-in-range p v r c WriteX b t = block-in-range r c (Scan 0) b (lt→ltb 0 (width s) (width-least s l))
+  turned-in-range p v r c (Scan h) b t = go (ℕ-discrete v 1) (ℕ-discrete (h + 1) (width s))
+    where
+      go : Dec (v ≡ 1) → Dec (h + 1 ≡ width s) → T (stateInRange s (pointTurned s p r c (Scan h) v))
+      go (yes met) last = subst (λ (to : State). T (stateInRange s to)) (scan-marked s p r c h v met)
+          (leave-in-range r c Right b)
+      go (no free) (yes e) = subst (λ (to : State). T (stateInRange s to)) (scan-done s p r c h v free e)
+          (block-in-range r c WriteMark b tt)
+      go (no free) (no d) =
+          let low = ltb→lt h (width s) t in
+          subst (λ (to : State). T (stateInRange s to)) (scan-on s p r c h v free d)
+          (block-in-range r c (Scan (h + 1)) b (lt→ltb (h + 1) (width s) (omega arith)))
+  turned-in-range p v r c WriteMark b t = block-in-range r c ReadX b tt
+  turned-in-range p v r c ReadX b t = go (ℕ-discrete v (p + 1))
+    where
+      go : Dec (v ≡ p + 1) → T (stateInRange s (pointTurned s p r c ReadX v))
+      go (yes e) = subst (λ (to : State). T (stateInRange s to)) (reads-own s p r c v e)
+          (le→leb (r + c + 1) (s .k) (omega arith))
+      go (no d) = subst (λ (to : State). T (stateInRange s to)) (reads-other s p r c v d) (leave-in-range r c Down b)
+  turned-in-range p v r c (Clear d) b t = move-in-range r c d b
+
+  pub next-in-range : (kind : Kind) (p : ℕ) (state : State) (m : Memory) → wrongMoment kind state ≡ false
+      → T (stateInRange s state)
+      → T (stateInRange s (nextState s kind p state m))
+  next-in-range Ask p state m e t = arrive-in-range 0 0 (l .k-least)
+  next-in-range Turn p Idle m e t = t
+  next-in-range Turn p (Seeking r c point) m e t =
+      turned-in-range p (value s (pointAccess s p r c point) m) r c point
+      (leb→le (r + c + 2) (s .k) (and-l (leb (r + c + 2) (s .k)) (pointInRange s point) t))
+      (and-r (leb (r + c + 2) (s .k)) (pointInRange s point) t)
+  next-in-range Turn p (Holding r c) m e t = t
+  next-in-range Release p state m e t = tt
+
+  access-writes : (kind : Kind) (p : ℕ) (state : State) → p < s .n → Writes s (access s kind p state)
+  access-writes Ask p state h = tt
+  access-writes Turn p Idle h = tt
+  access-writes Turn p (Seeking r c WriteX) h = le→leb (p + 1) (s .n) (omega arith)
+  access-writes Turn p (Seeking r c (Scan i)) h = tt
+  access-writes Turn p (Seeking r c WriteMark) h = tt
+  access-writes Turn p (Seeking r c ReadX) h = tt
+  access-writes Turn p (Seeking r c (Clear d)) h = tt
+  access-writes Turn p (Holding r c) h = tt
+  access-writes Release p Idle h = tt
+  access-writes Release p (Seeking r c point) h = tt
+  access-writes Release p (Holding r c) h = go (decLe (r + c + 2) (s .k))
+    where
+      go : Dec (r + c + 2 ≤ s .k) → Writes s (access s Release p (Holding r c))
+      go (yes b) = subst (Writes s) (release-clears s r c p b) tt
+      go (no b) = subst (Writes s) (release-nothing s r c p (omega arith)) tt
+
+-- ---- and so is the memory that it leaves
+
+set-good : {A : Type 0} (good : A → Bool) (l : List A) (i j : ℕ) (v d : A) → T (good v) → T (good (getD l j d))
+    → T (good (getD (set l i v) j d))
+set-good good [] i j v d t h = h
+set-good good (x ∷ l) zero zero v d t h = t
+set-good good (x ∷ l) zero (suc j) v d t h = h
+set-good good (x ∷ l) (suc i) zero v d t h = h
+set-good good (x ∷ l) (suc i) (suc j) v d t h = set-good good l i j v d t h
+
+module _ (s : Settings) (m : Memory) (h : Fit s m) where
+  record-fits : (p : ℕ) (new : Record) → T (recordInRange s new) → Fit s (withRecord p new m)
+  record-fits p new t = record {
+    long = record {
+      records = rw (length-set (m .records) p new) (h .long .records);
+      xs = h .long .xs;
+      marks = h .long .marks;
+    };
+    in-range = record {
+      records = λ q l. set-good (recordInRange s) (m .records) p q new idle t (h .in-range .records q l);
+      xs = h .in-range .xs;
+      marks = h .in-range .marks;
+    };
+  }
+
+  x-fits : (b v : ℕ) → T (xInRange s v) → Fit s (withX b v m)
+  x-fits b v t = record {
+    long = record {
+      records = h .long .records;
+      xs = rw (length-set (m .xs) b v) (h .long .xs);
+      marks = h .long .marks;
+    };
+    in-range = record {
+      records = h .in-range .records;
+      xs = λ i l. set-good (xInRange s) (m .xs) b i v 0 t (h .in-range .xs i l);
+      marks = h .in-range .marks;
+    };
+  }
+
+  mark-fits : (index v : ℕ) → T (markInRange v) → Fit s (withMark index v m)
+  mark-fits index v t = record {
+    long = record {
+      records = h .long .records;
+      xs = h .long .xs;
+      marks = rw (length-set (m .marks) index v) (h .long .marks);
+    };
+    in-range = record {
+      records = h .in-range .records;
+      xs = h .in-range .xs;
+      marks = λ i l. set-good markInRange (m .marks) index i v 0 t (h .in-range .marks i l);
+    };
+  }
+
+  -- a mark that is written is that mark and no other
+  mark-stored : (b place v : ℕ) → withMark (markIndex s b place) v m ≡ store s (MarkWritten b place v) m
+  mark-stored b place v = refl
+
+  store-fits : (access : Access) → Writes s access → Fit s (store s access m)
+  store-fits NoAccess w = h
+  store-fits (XRead b) w = h
+  store-fits (XWritten b v) w = x-fits b v w
+  store-fits (MarkRead b place) w = h
+  store-fits (MarkWritten b place v) w = subst (Fit s) (mark-stored b place v) (mark-fits (markIndex s b place) v w)
+
+pub accept-fits : (s : Settings) → WithinLimits s → (kind : Kind) (p : ℕ) (m : Memory) → Fit s m → p < s .n
+    → wrongMoment kind (stateOf m p) ≡ false
+    → Fit s (accept s kind p (stateOf m p) m .memory)
+accept-fits s fair kind p m h l e =
+    record-fits s (store s (access s kind p (stateOf m p)) m)
+    (store-fits s m h (access s kind p (stateOf m p)) (access-writes s fair kind p (stateOf m p) l))
+    p (record { state = nextState s kind p (stateOf m p) m })
+    (next-in-range s fair kind p (stateOf m p) m e (h .in-range .records p l))

@@ -1,0 +1,77 @@
+-- Which register a call touches: exactly one in a turn of a seeking task, none in an ask, at most its own mark in a
+-- release; always a needed one.
+use mathlib.Core.{Path.{_≡_, refl}, Bool.{Bool, true, false, cond}}
+use Prim.Native.Nat.{ℕ, _+_, _≤_, _<_}
+use native.Mathlib.Omega.{arith}
+use lib.Dec.{T, leb}
+use borrow.Author.Tests.{le-leb, lt-leb, leb-true}
+use Rattle.machine.specs.{Settings.{width, own}, Places.blockNumber, Records.{pointInRange, stateInRange}}
+use Rattle.machine.specs.{Memory.{Memory, stateOf}, Turn.{pointAccess, access, releaseAccess}}
+use Rattle.machine.specs.declared.Settings.{Settings}
+use Rattle.machine.specs.declared.Point.{Point, the-variants.{WriteX, Scan, WriteMark, ReadX, Clear}}
+use Rattle.machine.specs.declared.State.{State, the-variants.{Idle, Seeking, Holding}}
+use Rattle.machine.specs.declared.Access.the-variants.{NoAccess, MarkWritten}
+use Rattle.machine.specs.declared.{Kind.{Kind, the-variants.{Ask, Turn, Release}}, Event.Event}
+use Rattle.machine.specs.promises.Ranges.{WithinLimits, StateWithin}
+use Rattle.machine.specs.promises.OneAccess.{MarkNeeded, touches, RegisterNeeded, EachOneAccess, accessOf}
+use Rattle.machine.proofs.refusals.{Ranges.scans-a-mark, Lines.{point-line, state-line}, Passed.Passed}
+use Rattle.machine.proofs.bridge.Seen.{own-below, block-below, mark-below}
+
+-- ---- which register
+
+module _ (s : Settings) (l : WithinLimits s) (p : ℕ) (low : p < s .n) where
+  needed-mark : (r c place : ℕ) → r + c + 2 ≤ s .k → place < width s → MarkNeeded s (blockNumber s r c) place
+  needed-mark r c place b h = (block-below s l r c b, h, mark-below s l r c place b h)
+
+  point-one : (r c : ℕ) (point : Point) → r + c + 2 ≤ s .k → T (pointInRange s point)
+      → T (touches (pointAccess s p r c point)) × RegisterNeeded s (pointAccess s p r c point)
+  point-one r c WriteX b t = (tt, block-below s l r c b)
+  point-one r c (Scan h) b t = (tt, needed-mark r c h b (scans-a-mark s (Scan h) h t refl))
+  point-one r c WriteMark b t = (tt, needed-mark r c (own s p) b (own-below s l p low))
+  point-one r c ReadX b t = (tt, block-below s l r c b)
+  point-one r c (Clear direction) b t = (tt, needed-mark r c (own s p) b (own-below s l p low))
+
+  turn-one : (r c : ℕ) (point : Point) → StateWithin s (Seeking r c point)
+      → T (touches (access s Turn p (Seeking r c point))) × RegisterNeeded s (access s Turn p (Seeking r c point))
+  turn-one r c point good = point-one r c point (good .0) (point-line s l point .shows (good .1))
+
+pub one-access : EachOneAccess
+one-access s l p low = record {
+  ask = λ state. refl;
+  turn = turn-one s l p low;
+  release-block = λ r c b. (
+    rw (le-leb (r + c + 2) (s .k) b),
+    needed-mark s l p low r c (own s p) b
+        (own-below s l p low),
+  );
+  release-edge = λ r c e. rw (lt-leb (r + c + 2) (s .k) (let z : s .k < r + c + 2 = omega arith in z));
+}
+
+-- ---- the register of an access, where there is one, is needed
+
+module _ (s : Settings) (l : WithinLimits s) (p : ℕ) (low : p < s .n) where
+  release-needed : (r c : ℕ) → RegisterNeeded s (releaseAccess s p (Holding r c))
+  release-needed r c = go (leb (r + c + 2) (s .k)) refl
+    where
+      go : (b : Bool) → leb (r + c + 2) (s .k) ≡ b
+          → RegisterNeeded s (cond b (MarkWritten (blockNumber s r c) (own s p) 0) NoAccess)
+      go true e = one-access s l p low .release-block r c (leb-true (r + c + 2) (s .k) e) .1
+      go false e = tt
+
+  -- of a record in range
+  pub access-needed : (kind : Kind) (state : State) → T (stateInRange s state)
+      → RegisterNeeded s (access s kind p state)
+  access-needed Ask state good = tt
+  access-needed Turn Idle good = tt
+  access-needed Turn (Seeking r c point) good =
+      one-access s l p low .turn r c point (state-line s l (Seeking r c point) .says good) .1
+  access-needed Turn (Holding r c) good = tt
+  access-needed Release Idle good = tt
+  access-needed Release (Seeking r c point) good = tt
+  access-needed Release (Holding r c) good = release-needed r c
+
+-- of a call that passed its tests
+pub call-needed : (s : Settings) (event : Event) (m : Memory) → Passed s event m → RegisterNeeded s (accessOf s event m)
+call-needed s event m h = access-needed s (h .limits) (event .task .0) (h .may .known) (event .kind)
+    (stateOf m (event .task .0))
+    (h .fit .in-range .records (event .task .0) (h .may .known))

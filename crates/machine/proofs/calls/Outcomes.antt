@@ -1,0 +1,49 @@
+-- The two outcomes of a call on a fit memory: the task may and it is accepted, or it is refused and changes nothing.
+use mathlib.Core.{Path.{_≡_, refl, sym, subst}, Bool.{Bool, true, false}, List.{[], _∷_}}
+use borrow.Author.Tests.{lt-leb, leb-false}
+use Rattle.machine.specs.{Memory.{Memory, stateOf, outOf}, Answers.isAccepted}
+use Rattle.machine.specs.Refusals.{first, when, noSuchTask, oneTimeRelease, wrongMoment, tooManyOut}
+use Rattle.machine.specs.Calls.{Outcome, refuseOr, call}
+use Rattle.machine.specs.declared.{Settings.Settings, Event.Event}
+use Rattle.machine.specs.declared.Refusal.{Refusal, the-variants.{NoSuchTask, OneTime, WrongMoment, TooManyOut}}
+use Rattle.machine.specs.declared.{Verdict.Verdict, Answer.Answer}
+use Rattle.machine.specs.promises.Ranges.{WithinLimits}
+use Rattle.machine.proofs.refusals.{Passed.{Fit, May, fit-verdict}, Refusing.{ruled, ruled-accepted}}
+use Rattle.counting.proofs.Bools.{is-true}
+
+pub accepted-answer : (s : Settings) (event : Event) (m : Memory) → isAccepted (ruled s event m .answer) ≡ true
+accepted-answer s event m = is-true _ (ruled-accepted s event m)
+
+pub data Called (s : Settings) (event : Event) (m : Memory) : Outcome → Type 0 where
+  taken : May s event m → Called s event m (ruled s event m)
+  refused : (why : Refusal) → Called s event m (record { answer = Answer.Refused why; memory = m })
+
+module _ (s : Settings) (l : WithinLimits s) (event : Event) (m : Memory) (fit : Fit s m) where
+  -- tests 4 to 7
+  abbrev lastTests : Bool → Bool → Bool → Bool → Verdict
+  lastTests task once moment out = first (when task NoSuchTask ∷ when once OneTime ∷ when moment WrongMoment ∷ when
+      out TooManyOut ∷ [])
+
+  pub called : Called s event m (call s event m)
+  called =
+      subst (λ v. Called s event m (refuseOr v m (ruled s event m))) (sym (fit-verdict s m event l fit))
+      (go (noSuchTask s (event .task .0)) (oneTimeRelease s (event .kind))
+      (wrongMoment (event .kind) (stateOf m (event .task .0)))
+      (tooManyOut s (event .kind) (outOf s (m .records))) refl refl refl refl)
+    where
+      go : (task once moment out : Bool) → noSuchTask s (event .task .0) ≡ task → oneTimeRelease s (event .kind) ≡ once
+          → wrongMoment (event .kind) (stateOf m (event .task .0)) ≡ moment
+          → tooManyOut s (event .kind) (outOf s (m .records)) ≡ out
+          → Called s event m (refuseOr (lastTests task once moment out) m (ruled s event m))
+      go true once moment out a b c d = refused NoSuchTask
+      go false true moment out a b c d = refused OneTime
+      go false false true out a b c d = refused WrongMoment
+      go false false false true a b c d = refused TooManyOut
+      go false false false false a b c d =
+          taken (record { known = leb-false (s .n) (event .task .0) a; lived = b; moment = c; room = d })
+
+  -- a call that the task may make is accepted
+  pub may-accepted : May s event m → call s event m ≡ ruled s event m
+  may-accepted o =
+      subst (λ v. refuseOr v m (ruled s event m) ≡ ruled s event m) (sym (fit-verdict s m event l fit))
+      (rw (lt-leb (s .n) (event .task .0) (o .known), o .lived, o .moment, o .room))

@@ -1,0 +1,11 @@
+-- Demand 3: what was answered last, who is served and when, and the schedule that needs the bound.
+pub mod Told
+pub mod Seekers
+pub mod Served
+pub mod Leads
+pub mod Worst
+pub mod WorstTurns
+pub mod Laps
+pub mod WorstRun
+pub mod Exact
+pub mod Demand3

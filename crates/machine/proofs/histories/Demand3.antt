@@ -1,0 +1,52 @@
+-- Demand 3, whole: the eight statements of `specs/Demands`, proved. Read this file first. J0 to J3 hold after every
+-- call (`Histories`), and so: no two tasks hold one place (`Names`), a holder knows its name (`Told`), a seeking task's
+-- turn is accepted (`Seekers`), it takes no more turns than the bound (`Served`), and the worst schedule takes as many
+-- (`Exact`).
+use mathlib.Core.Path.{_≡_, sym, _∙_}
+use native.Mathlib.{Decide.ℕ-discrete, Omega.arith}
+use Rattle.machine.specs.promises.Demands.{HeldNamesDiffer, HeldNamesBelow, LastAnswerTrue, HeldNameAnswered}
+use Rattle.machine.specs.promises.Demands.{SeekerNeverRefused, bound, ServedWithin, BoundExact, SetupTakes}
+use Rattle.machine.proofs.bridge.{Numbering.name-numbering, Names.{held-place, one-place}}
+use Rattle.machine.proofs.histories.{Told.told, Seekers.seeker-accepted}
+use Rattle.machine.proofs.histories.{Served.{seeking-used, holding-used, served-alone}, Worst.worst}
+use Rattle.machine.proofs.histories.Exact.{worst-needs-bound, setup-takes-largest}
+use Rattle.machine.proofs.histories.Told as told
+
+-- two that hold one name hold one place, which only one task can
+pub held-names-differ : HeldNamesDiffer
+held-names-differ s lent events ok p q n lp lq hp hq = go (ℕ-discrete q p)
+  where
+    go : Dec (q ≡ p) → p ≡ q
+    go (yes e) = sym e
+    go (no d) =
+        let same = name-numbering s .apart (hq .r) (hq .c) (hp .r) (hp .c)
+        (held-place s lent events ok q (hq .r) (hq .c) lq (hq .holds))
+        (held-place s lent events ok p (hp .r) (hp .c) lp (hp .holds)) (sym (hq .named) ∙ hp .named) in
+        absurd (one-place s lent events ok p q (hp .r) (hp .c) lp lq (hp .holds)
+        (rw (same .0, same .1) at (hq .holds)) d)
+
+pub held-names-below : HeldNamesBelow
+held-names-below s lent events ok p n l h =
+    rw (h .named) (name-numbering s .below (h .r) (h .c) (held-place s lent events ok p (h .r) (h .c) l (h .holds)))
+
+pub last-answer-true : LastAnswerTrue
+last-answer-true = told.last-answer-true
+
+pub held-name-answered : HeldNameAnswered
+held-name-answered s lent events ok p n l h = rw (h .named) (told s lent events ok p (h .r) (h .c) l (h .holds))
+
+pub seeker-never-refused : SeekerNeverRefused
+seeker-never-refused s lent events ok p l seeks = seeker-accepted s lent events ok p l seeks
+
+pub served-within : ServedWithin
+served-within s lent events ok p l = record {
+  seeking = seeking-used s lent ok p l events;
+  holding = holding-used s lent ok p l events;
+  alone = served-alone s lent ok p l (bound s) events (omega arith);
+}
+
+pub bound-exact : BoundExact
+bound-exact s within = (worst s, worst-needs-bound s)
+
+pub setup-takes : SetupTakes
+setup-takes s fair = setup-takes-largest s fair

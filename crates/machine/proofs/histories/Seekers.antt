@@ -1,0 +1,28 @@
+-- Demand 3, "No turn of a seeking task is refused": J0 has tests 1 to 3 pass, and 4 to 7 ask nothing more of the turn
+-- of a task that seeks.
+use mathlib.Core.{Path.{_≡_, refl}, Bool.{false, not}, List.List}
+use Prim.Native.Nat.{ℕ, _<_}
+use lib.Dec.{T}
+use Rattle.machine.specs.{Records.isSeeking, Memory.{Memory, stateOf}, Answers.isAccepted, Calls.{call, turn}}
+use Rattle.machine.specs.promises.Demands.{SetUp, memoryAfter, Seeks}
+use Rattle.machine.specs.declared.{Settings.Settings, State.{State, the-variants.{Idle, Seeking, Holding}}}
+use Rattle.machine.specs.declared.Event.{Event}
+use Rattle.machine.proofs.calls.{Fresh.setup-within, Outcomes.{accepted-answer, may-accepted}}
+use Rattle.machine.proofs.{bridge.Histories.always-in-order, refusals.Passed.May}
+
+pub seeker-may : (s : Settings) (m : Memory) (p : ℕ) → p < s .n → T (isSeeking (stateOf m p)) → May s (turn p) m
+seeker-may s m p l t = record { known = l; lived = refl; moment = seeking (stateOf m p) t; room = refl }
+  where
+    seeking : (state : State) → T (isSeeking state) → not (isSeeking state) ≡ false
+    seeking Idle t = absurd t
+    seeking (Seeking r c point) t = refl
+    seeking (Holding r c) t = absurd t
+
+pub seeker-accepted : (s : Settings) (lent : Memory) (events : List Event) → SetUp s lent → (p : ℕ) → p < s .n
+    → Seeks (memoryAfter s lent events) p
+    → T (isAccepted (call s (turn p) (memoryAfter s lent events) .answer))
+seeker-accepted s lent events ok p l t =
+    let m = memoryAfter s lent events in
+    let taken = may-accepted s (setup-within s lent ok) (turn p) m (always-in-order s lent ok events .invariants .fit)
+    (seeker-may s m p l t) in
+    rw (taken, accepted-answer s (turn p) m) tt

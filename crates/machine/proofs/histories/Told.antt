@@ -1,0 +1,155 @@
+-- Demand 3 speaks of names that tasks hold; callers know what they were answered. The two agree: a task is where its
+-- last accepted answer says. Every accepted call could break it: its answer is read off the record that it leaves.
+use mathlib.Core.{Path.{_≡_, refl, sym, ap}, Bool.{Bool, true, false, not, cond, _&&_, true≢false, false≢true}}
+use mathlib.Core.List.{List, [], _∷_}
+use Prim.Native.Nat.{ℕ, _+_, _<_}
+use native.Mathlib.Omega.{arith}
+use lib.Dec.{eqb}
+use borrow.Author.Tests.{eqb-true, eqb-false, ne-eqb}
+use Rattle.machine.specs.{Settings.width, Places.nameNumber, Records.{isHolding, isOut}, Memory.{Memory, stateOf}}
+use Rattle.machine.specs.{Turn.{pointAccess, value, arrive, move, leave, pointTurned}, Refusals.wrongMoment}
+use Rattle.machine.specs.Answers.{isAccepted}
+use Rattle.machine.specs.Calls.{Outcome, nameAt, standing, answerOf, nextState, call, setup, release}
+use Rattle.machine.specs.History.{run, history}
+use Rattle.machine.specs.promises.Demands.{SetUp, memoryAfter, historyOf, lastAnswer, TrueOf, LastAnswerTrue}
+use Rattle.machine.specs.promises.Demands.{Told}
+use Rattle.machine.specs.promises.Ranges.{WithinLimits}
+use Rattle.machine.specs.declared.{Settings.Settings, Name.Name}
+use Rattle.machine.specs.declared.Direction.{Direction, the-variants.{Right, Down}}
+use Rattle.machine.specs.declared.Point.{Point, the-variants.{WriteX, Scan, WriteMark, ReadX, Clear}}
+use Rattle.machine.specs.declared.State.{State, the-variants.{Idle, Seeking, Holding}}
+use Rattle.machine.specs.declared.{Kind.{Kind, the-variants.{Ask, Turn, Release}}, Event.Event, Answer.Answer}
+use Rattle.machine.proofs.calls.{Fresh.{setup-within, fresh-idle}, Telling.tells}
+use Rattle.machine.proofs.calls.Outcomes.{Called, taken, refused, accepted-answer, called, may-accepted}
+use Rattle.machine.proofs.bridge.Steps.{caller-after, others-after}
+use Rattle.machine.proofs.bridge.Histories.{InOrder, in-order-kept, fresh-in-order, always-in-order}
+use Rattle.machine.proofs.refusals.Passed.{Fit, May}
+
+-- ---- an accepted call
+
+-- a task that stands is told where
+standing-true : (s : Settings) (state : State) → isOut state ≡ true → TrueOf s state (standing s state)
+standing-true s Idle out = absurd (false≢true out)
+standing-true s (Seeking r c point) out = refl
+standing-true s (Holding r c) out = refl
+
+arrive-out : (s : Settings) (r c : ℕ) → isOut (arrive s r c) ≡ true
+arrive-out s r c = go (eqb (r + c + 1) (s .k))
+  where
+    go : (edge : Bool) → isOut (cond edge (Holding r c) (Seeking r c WriteX)) ≡ true
+    go true = refl
+    go false = refl
+
+leave-out : (s : Settings) (r c : ℕ) (direction : Direction) → isOut (leave s r c direction) ≡ true
+leave-out s r c direction = go (eqb (s .mode) 0) direction
+  where
+    go : (once : Bool) (d : Direction) → isOut (cond once (move s r c d) (Seeking r c (Clear d))) ≡ true
+    go true Right = arrive-out s r (c + 1)
+    go true Down = arrive-out s (r + 1) c
+    go false d = refl
+
+-- a seeking task is out after its turn
+turned-out : (s : Settings) (p r c : ℕ) (point : Point) (v : ℕ) → isOut (pointTurned s p r c point v) ≡ true
+turned-out s p r c WriteX v = refl
+turned-out s p r c (Scan h) v = go (eqb v 1) (eqb (h + 1) (width s))
+  where
+    go : (met last : Bool) → isOut (cond met (leave s r c Right)
+        (cond last (Seeking r c WriteMark) (Seeking r c (Scan (h + 1))))) ≡ true
+    go true last = leave-out s r c Right
+    go false true = refl
+    go false false = refl
+turned-out s p r c WriteMark v = refl
+turned-out s p r c ReadX v = go (eqb v (p + 1))
+  where
+    go : (its : Bool) → isOut (cond its (Holding r c) (leave s r c Down)) ≡ true
+    go true = refl
+    go false = leave-out s r c Down
+turned-out s p r c (Clear Right) v = arrive-out s r (c + 1)
+turned-out s p r c (Clear Down) v = arrive-out s (r + 1) c
+
+-- what an accepted call answers is true of the record that it leaves
+answer-true : (s : Settings) (kind : Kind) (p : ℕ) (state : State) (m : Memory) → wrongMoment kind state ≡ false
+    → TrueOf s (nextState s kind p state m) (answerOf s kind state (nextState s kind p state m))
+answer-true s Ask p state m e = standing-true s (arrive s 0 0) (arrive-out s 0 0)
+answer-true s Turn p Idle m e = absurd (true≢false e)
+answer-true s Turn p (Seeking r c point) m e =
+    standing-true s (nextState s Turn p (Seeking r c point) m)
+    (turned-out s p r c point (value s (pointAccess s p r c point) m))
+answer-true s Turn p (Holding r c) m e = absurd (true≢false e)
+answer-true s Release p Idle m e = absurd (true≢false e)
+answer-true s Release p (Seeking r c point) m e = absurd (true≢false e)
+answer-true s Release p (Holding r c) m e = tt
+
+-- ---- a history
+
+-- the last answer of task p, after one more call
+abbrev heard : ℕ → Event → Outcome → Answer → Answer
+heard p event outcome before = cond (isAccepted (outcome .answer) && eqb (event .task .0) p) (outcome .answer) before
+
+module _ (s : Settings) (fair : WithinLimits s) (p : ℕ) (m : Memory) (sound : Fit s m) (before : Answer) where
+  heard-kept : (event : Event) → TrueOf s (stateOf m p) before
+      → TrueOf s (stateOf (call s event m .memory) p) (heard p event (call s event m) before)
+  heard-kept event h = go (call s event m) (called s fair event m sound) (eqb (event .task .0) p) refl
+    where
+      go : (outcome : Outcome) → Called s event m outcome → (its : Bool) → eqb (event .task .0) p ≡ its
+          → TrueOf s (stateOf (outcome .memory) p) (cond (isAccepted (outcome .answer) && its) (outcome .answer) before)
+      go outcome (refused why) its e = h
+      go outcome (taken o) true e =
+          let z : event .task .0 ≡ p = eqb-true (event .task .0) p e in
+          let own = caller-after s fair m sound (event .task .0) (o .known) (event .kind)
+          (stateOf m (event .task .0)) in
+          rw (accepted-answer s event m, ← z, own)
+          (answer-true s (event .kind) (event .task .0) (stateOf m (event .task .0)) m (o .moment))
+      go outcome (taken o) false e =
+          let d : p ≡ event .task .0 → ⊥ = λ f. eqb-false (event .task .0) p e (sym f) in
+          rw (
+            accepted-answer s event m,
+            others-after s fair m sound (event .task .0) (o .known) (event .kind)
+                (stateOf m (event .task .0)) p d,
+          ) h
+
+last-heard : (s : Settings) (fair : WithinLimits s) (p : ℕ) (events : List Event) (m : Memory) (before : Answer)
+    → InOrder s fair m
+    → TrueOf s (stateOf m p) before → TrueOf s (stateOf (run s events m) p) (lastAnswer p (history s events m) before)
+last-heard s fair p [] m before f h = h
+last-heard s fair p (event ∷ events) m before f h =
+    last-heard s fair p events (call s event m .memory) (heard p event (call s event m) before)
+    (in-order-kept s fair event m f)
+    (heard-kept s fair p m (f .invariants .fit) before event h)
+
+pub last-answer-true : LastAnswerTrue
+last-answer-true s lent events ok p l =
+    last-heard s (setup-within s lent ok) p events (setup s lent .memory) Answer.Done (fresh-in-order s lent ok)
+    (rw (fresh-idle s lent ok p l) tt)
+
+-- ---- the name that is freed
+
+holder-may : (s : Settings) (m : Memory) (p r c : ℕ) → p < s .n → s .mode ≡ 1 → stateOf m p ≡ Holding r c
+    → May s (release p) m
+holder-may s m p r c l one e = record {
+  known = l;
+  lived = ne-eqb (s .mode) 0 (λ z. omega arith);
+  moment = ap (λ (state : State). not (isHolding state)) e;
+  room = refl;
+}
+
+pub told : (s : Settings) (lent : Memory) (events : List Event) → SetUp s lent → (p r c : ℕ) → p < s .n
+    → stateOf (memoryAfter s lent events) p ≡ Holding r c → Told s lent events p (nameNumber s r c)
+told s lent events ok p r c l e =
+    let fair = setup-within s lent ok in
+    let m = memoryAfter s lent events in
+    let named : Name = nameAt s r c in
+    let heard : lastAnswer p (historyOf s lent events) Answer.Done ≡ Answer.Holds named =
+    rw e at (last-answer-true s lent events ok p l) in
+    let freed : s .mode ≡ 1 → call s (release p) m .answer ≡ Answer.Freed named = λ one.
+    rw (
+      may-accepted s fair (release p) m (always-in-order s lent ok events .invariants .fit)
+          (holder-may s m p r c l one e),
+      e,
+    ) in
+    record {
+      answered = heard;
+      answer-tells = tells _ (Answer.Holds named) (named .0 ∷ []) heard (refl, refl) .1;
+      freed = freed;
+      freed-tells = λ one. tells _ (Answer.Freed named) (named .0 ∷ []) (freed one) (refl, refl) .1;
+    }

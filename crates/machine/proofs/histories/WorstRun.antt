@@ -1,0 +1,211 @@
+-- The worst schedule, followed from setup: no call of it is refused, and it leaves task 0 holding the place at the foot
+-- of the first column.
+use mathlib.Core.{Path.{_≡_, refl, sym, ap, subst, _∙_}, Logic.{_⊎_, inl, inr}, Bool.cond, List.{List, [], _∷_}}
+use Prim.Native.Nat.{ℕ, zero, suc, _+_, _-_, _≤_, _<_}
+use native.Mathlib.{Nat.le-refl, Omega.arith}
+use lib.{Dec.eqb, ListN.{getD, set}}
+use borrow.Author.Tests.{eq-eqb, ne-eqb}
+use Rattle.machine.specs.{Settings.{width, own}, Places.blockNumber, Memory.{Memory, markIndex, stateOf, outOf}}
+use Rattle.machine.specs.{Turn.{arrive, leave}, Calls.{nextState, accept, setup, ask}, History.turns}
+use Rattle.machine.specs.promises.{Demands.SetUp, Ranges.WithinLimits}
+use Rattle.machine.specs.declared.{Settings.Settings, Direction.the-variants.Down}
+use Rattle.machine.specs.declared.Point.{Point, the-variants.{WriteX, Scan, WriteMark, ReadX, Clear}}
+use Rattle.machine.specs.declared.State.{State, the-variants.{Idle, Seeking, Holding}}
+use Rattle.machine.specs.declared.{Kind.the-variants.{Ask, Turn}, Event.Event}
+use Rattle.machine.proofs.histories.Worst.{worstRow, worstRows, worst}
+use Rattle.machine.proofs.histories.Leads.{Leads, leads-more, leads-append, leads-nowhere}
+use Rattle.machine.proofs.histories.Laps.{Took, turn-took, ask-took, Lap, lap-over, lap-more, laps}
+use Rattle.machine.proofs.{refusals.Limits.width-least, calls.Fresh.{setup-within, fresh-idle, fresh-none-out}}
+use Rattle.machine.proofs.bridge.{Turning.reads-other, Arriving.{leave-at-once, leave-clearing}}
+use Rattle.machine.proofs.bridge.Seen.{own-below, gridOf, x-on-block, mark-on-block, x-put, mark-put}
+use Rattle.machine.proofs.bridge.Histories.{InOrder, fresh-in-order, fresh-unmarked, one-more-out}
+
+module _ (s : Settings) (fair : WithinLimits s) where
+  -- ---- what a row needs of the memory
+
+  -- the marks of the first column are 0 from row r on
+  abbrev Unmarked : ℕ → Memory → Type 0
+  Unmarked r m = (i place : ℕ) → r ≤ i → gridOf s m .mark i 0 place ≡ 0
+
+  -- X of the block at (r, 0) is task n's, and no mark below is set
+  abbrev Lost : ℕ → ℕ → Memory → Type 0
+  Lost r n m = Unmarked (r + 1) m × (gridOf s m .x r 0 ≡ n + 1)
+
+  -- ---- a task's first turns in a row: it writes X and scans
+
+  -- where it stands when it has scanned h marks
+  abbrev scanned : ℕ → ℕ → State
+  scanned r h = cond (eqb h (width s)) (Seeking r 0 WriteMark) (Seeking r 0 (Scan h))
+
+  scan-lap : (r p : ℕ) → r + 2 ≤ s .k → p < s .n → (left h : ℕ) → h + left ≡ width s → (m : Memory) → InOrder s fair m
+      → Unmarked r m
+      → stateOf m p ≡ scanned r h → Lap s fair (Unmarked r) p (Seeking r 0 WriteMark) (turns left p) m
+  scan-lap r p b l zero h e m f clean is = lap-over m f clean (is ∙ rw (eq-eqb h (width s) (omega arith)))
+  scan-lap r p b l (suc left) h e m f clean is =
+      let here = turn-took p r 0 (Scan h) m f l (is ∙ rw (ne-eqb h (width s) (λ z. omega arith))) in
+      let unset : getD (m .marks) (markIndex s (blockNumber s r 0) h) 0 ≡ 0 =
+      sym (mark-on-block s (m .marks) r 0 h (omega arith) (omega arith)) ∙ clean r h (le-refl r) in
+      let next : nextState s Turn p (Seeking r 0 (Scan h)) m ≡ scanned r (h + 1) = rw unset in
+      lap-more here
+      (scan-lap r p b l left (h + 1) (omega arith) _ (here .fine) clean (here .its ∙ next))
+
+  first-lap : (r p : ℕ) → r + 2 ≤ s .k → p < s .n → (m : Memory) → InOrder s fair m → Unmarked r m
+      → stateOf m p ≡ Seeking r 0 WriteX
+      → Lap s fair (Unmarked r) p (Seeking r 0 WriteMark) (turns (suc (width s)) p) m
+  first-lap r p b l m f clean is =
+      let here = turn-took p r 0 WriteX m f l is in
+      let some = width-least s fair in
+      lap-more here
+      (scan-lap r p b l (width s) 0 (omega arith) _ (here .fine) clean
+      (here .its ∙ rw (ne-eqb 0 (width s) (λ z. omega arith))))
+
+  -- ---- its other turns there: it writes its mark, reads another's X and, long-lived, clears
+
+  -- a mark of row r is none of the rows below
+  below-unmarked : (r p value : ℕ) (point : Point) (m : Memory) → InOrder s fair m → r + 2 ≤ s .k → p < s .n
+      → accept s Turn p (Seeking r 0 point) m .memory .marks ≡ set (m .marks)
+      (markIndex s (blockNumber s r 0) (own s p)) value
+      → Unmarked (r + 1) m → Unmarked (r + 1) (accept s Turn p (Seeking r 0 point) m .memory)
+  below-unmarked r p value point m f b l e clean i place h =
+      mark-put s fair m (accept s Turn p (Seeking r 0 point) m .memory) r 0 (own s p) value (omega arith)
+      (own-below s fair p l)
+      (f .invariants .fit .long .marks) e .there i 0 place (λ z _ _. omega arith) ∙ clean i place h
+
+  second-lap : (r n p : ℕ) → r + 2 ≤ s .k → p < n → p < s .n → (m : Memory) → InOrder s fair m → Lost r n m
+      → stateOf m p ≡ Seeking r 0 WriteMark
+      → Lap s fair (Lost r n) p (arrive s (r + 1) 0) (turns (s .mode + 2) p) m
+  second-lap r n p b h l m f lost is = go (fair .modes)
+    where
+      m₁ : Memory
+      m₁ = accept s Turn p (Seeking r 0 WriteMark) m .memory
+
+      m₂ : Memory
+      m₂ = accept s Turn p (Seeking r 0 ReadX) m₁ .memory
+
+      m₃ : Memory
+      m₃ = accept s Turn p (Seeking r 0 (Clear Down)) m₂ .memory
+
+      marks : Took s fair Turn p (Seeking r 0 WriteMark) m
+      marks = turn-took p r 0 WriteMark m f l is
+
+      reads : Took s fair Turn p (Seeking r 0 ReadX) m₁
+      reads = turn-took p r 0 ReadX m₁ (marks .fine) l (marks .its)
+
+      lost₂ : Lost r n m₂
+      lost₂ = (below-unmarked r p 1 WriteMark m f b l refl (lost .0), lost .1)
+
+      x-other : getD (m .xs) (blockNumber s r 0) 0 ≡ p + 1 → ⊥
+      x-other e = omega (arith, x-on-block s (m .xs) r 0 (omega arith), lost .1)
+
+      left : stateOf m₂ p ≡ leave s r 0 Down
+      left = reads .its ∙ sym (reads-other s p r 0 (getD (m .xs) (blockNumber s r 0) 0) x-other)
+
+      Whole : ℕ → Type 0
+      Whole mode = Lap s fair (Lost r n) p (arrive s (r + 1) 0) (turns (mode + 2) p) m
+
+      go : (s .mode ≡ 0) ⊎ (s .mode ≡ 1) → Whole (s .mode)
+      go (inl e) =
+          subst Whole (sym e) (lap-more marks
+          (lap-more reads (lap-over m₂ (reads .fine) lost₂ (left ∙ sym (leave-at-once s r 0 Down e)))))
+      go (inr e) =
+          let clears = turn-took p r 0 (Clear Down) m₂ (reads .fine) l
+          (left ∙ sym (leave-clearing s r 0 Down (λ z. omega arith))) in
+          let lost₃ : Lost r n m₃ = (
+            below-unmarked r p 0 (Clear Down) m₂ (reads .fine) b l refl
+                (lost₂ .0),
+            lost₂ .1,
+          ) in
+          subst Whole (sym e) (lap-more marks
+          (lap-more reads (lap-more clears (lap-over m₃ (clears .fine) lost₃ (clears .its)))))
+
+  -- ---- row after row
+
+  -- the calls leave task 0 at the foot of the first column
+  pub record Foot (events : List Event) (m : Memory) : Type 0 where
+    pub last : Memory
+    pub leads : Leads s events m last
+    pub holds : stateOf last 0 ≡ Holding (s .k - 1) 0
+
+  -- of n + 1 tasks in row r one stays there, and n come to the next row
+  record RowDone (n r : ℕ) (m : Memory) : Type 0 where
+    last : Memory
+    leads : Leads s (worstRow s n) m last
+    fine : InOrder s fair last
+    keeps : Unmarked (r + 1) last
+    theirs : (q : ℕ) → q < n → stateOf last q ≡ arrive s (r + 1) 0
+
+  row-done : (n r : ℕ) → r + 2 ≤ s .k → suc n < s .n → (m : Memory) → InOrder s fair m → Unmarked r m
+      → ((q : ℕ) → q < suc (suc n) → stateOf m q ≡ Seeking r 0 WriteX) → RowDone (suc n) r m
+  row-done n r b l m f clean all =
+      let first = laps (λ _. Unmarked r) (Seeking r 0 WriteX) (Seeking r 0 WriteMark) (turns (suc (width s))) (suc n)
+      (λ p m₁ h. first-lap r p b (omega arith) m₁) m f clean (λ q h. all q (omega arith)) in
+      let m₁ : Memory = accept s Turn (suc n) (Seeking r 0 WriteX) (first .last) .memory in
+      let stays = turn-took (suc n) r 0 WriteX (first .last) (first .fine) l
+      (first .others (suc n) (le-refl (suc n)) ∙ all (suc n) (le-refl (suc (suc n)))) in
+      let lost : Lost r (suc n) m₁ = (
+        λ i place h. first .keeps i place (omega arith),
+        x-put s fair (first .last) m₁ r 0 (suc n + 1) (omega arith) (first .fine .invariants .fit .long .xs) refl .here,
+      ) in
+      let second = laps (λ _. Lost r (suc n)) (Seeking r 0 WriteMark) (arrive s (r + 1) 0) (turns (s .mode + 2)) (suc n)
+      (λ p m₂ h. second-lap r (suc n) p b h (omega arith) m₂) m₁ (stays .fine) lost
+      (λ q h. stays .others q (λ d. omega arith) ∙ first .theirs q h) in
+      record {
+        last = second .last;
+        leads = leads-append {middle = first .last} {last = second .last} (first .leads)
+            (leads-more {last = second .last} (accept s Turn (suc n) (Seeking r 0 WriteX) (first .last)) (stays .does)
+            (stays .says) (second .leads));
+        fine = second .fine;
+        keeps = second .keeps .0;
+        theirs = second .theirs;
+      }
+
+  go-down : (n r : ℕ) → r + n + 1 ≡ s .k → (m : Memory) → InOrder s fair m → Unmarked r m
+      → ((q : ℕ) → q < suc n → stateOf m q ≡ arrive s r 0)
+      → Foot (worstRows s n) m
+  go-down zero r e m f clean all =
+      let last : r ≡ s .k - 1 = omega arith in
+      record {
+        last = m;
+        leads = leads-nowhere;
+        holds = all 0 (le-refl 1) ∙ rw (eq-eqb (r + 0 + 1) (s .k) (omega arith)) (ap (λ (i : ℕ). Holding i 0) last);
+      }
+  go-down (suc n) r e m f clean all =
+      let row = row-done n r (omega arith) (omega (arith, fair .k-within)) m f clean
+      (λ q h. all q h ∙ rw (ne-eqb (r + 0 + 1) (s .k) (λ z. omega arith))) in
+      let rest = go-down n (r + 1) (omega arith) (row .last) (row .fine) (row .keeps) (row .theirs) in
+      record {
+        last = rest .last;
+        leads = leads-append {middle = row .last} {last = rest .last} (row .leads) (rest .leads);
+        holds = rest .holds;
+      }
+
+  -- ---- the asks before them
+
+  -- n more may ask
+  abbrev Room : ℕ → Memory → Type 0
+  Room n m = (outOf s (m .records) + n ≤ s .k) × Unmarked 0 m
+
+  ask-lap : (p : ℕ) (m : Memory) → p < s .n → InOrder s fair m → Room (suc p) m → stateOf m p ≡ Idle
+      → Lap s fair (Room p) p (arrive s 0 0) (ask p ∷ []) m
+  ask-lap p m l f room is =
+      let here = ask-took p m f l (omega arith) is in
+      let more = one-more-out s fair Ask p m (f .invariants .fit) l in
+      lap-more here (lap-over _ (here .fine) (omega arith, room .1) (here .its))
+
+pub worst-run : (s : Settings) (lent : Memory) (ok : SetUp s lent)
+    → Foot s (setup-within s lent ok) (worst s) (setup s lent .memory)
+worst-run s lent ok =
+    let fair = setup-within s lent ok in
+    let bounds = fair in
+    let asks = laps (Room s fair) Idle (arrive s 0 0) (λ p. ask p ∷ []) (s .k)
+    (λ p m h. ask-lap s fair p m (omega (arith, bounds .k-within)))
+    (setup s lent .memory) (fresh-in-order s lent ok)
+    (omega (arith, fresh-none-out s lent ok), λ i place _. fresh-unmarked s lent ok i 0 place)
+    (λ q h. fresh-idle s lent ok q (omega (arith, bounds .k-within))) in
+    let down = go-down s fair (s .k - 1) 0 (omega (arith, bounds .k-least)) (asks .last) (asks .fine) (asks .keeps .1)
+    (λ q h. asks .theirs q (omega (arith, bounds .k-least))) in
+    record {
+      last = down .last;
+      leads = leads-append {middle = asks .last} {last = down .last} (asks .leads) (down .leads);
+      holds = down .holds;
+    }

@@ -1,0 +1,9 @@
+-- Demand 1: the limits and ranges, the table of refusals, and what it says that the tests passed.
+pub mod Limits
+pub mod Ranges
+pub mod Deciding
+pub mod Lines
+pub mod BadValue
+pub mod Refusing
+pub mod Passed
+pub mod Passing

@@ -1,0 +1,141 @@
+-- Each line of the table of numbers against the test that the definitions make for it.
+use mathlib.Core.{Path.{_≡_, refl}, Logic.{_⊎_, inl, inr, ⊎-elim, _↔_}, Bool.{Bool, false, not}}
+use Prim.Native.Nat.{ℕ, _+_, _≤_, _<_}
+use native.Mathlib.Omega.{arith}
+use lib.{Dec.{leb, ltb}, ListN.{length, getD}}
+use Rattle.machine.specs.{Settings.width, Places.blocks}
+use Rattle.machine.specs.Records.{isIdle, isSeeking, isHolding, isOut, pointInRange, stateInRange, recordInRange}
+use Rattle.machine.specs.Memory.{Memory, marksNeeded, recordOf, stateOf, xInRange, markInRange, outOf}
+use Rattle.machine.specs.Refusals.{rowShort, oneTimeRelease, wrongMoment, tooManyOut}
+use Rattle.machine.specs.promises.Ranges.{WithinLimits, NeedsMore, PointWithin, StateWithin, BadAt, seeksOrHolds}
+use Rattle.machine.specs.promises.Refusing.{SomeRowShort, NotTheMoment, tasksOut}
+use Rattle.machine.specs.declared.Settings.{Settings}
+use Rattle.machine.specs.declared.Point.{Point, the-variants.{WriteX, Scan, WriteMark, ReadX, Clear}}
+use Rattle.machine.specs.declared.State.{State, the-variants.{Idle, Seeking, Holding}}
+use Rattle.machine.specs.declared.Kind.{Kind, the-variants.{Ask, Turn, Release}}
+use Rattle.machine.specs.declared.Row.{Row, the-variants.{Records, Xs, Marks}}
+use Rattle.grid.specs.Triangle.{half}
+use Rattle.counting.proofs.Tested.{Tested, below, most, same, both, either, fails, meaning, always, never}
+use Rattle.counting.proofs.Searching.{count-same}
+
+-- ---- 2: a lent row is shorter than needed
+
+-- how many values of a row are needed, in the definitions
+abbrev pub neededOf : Settings → Row → ℕ
+neededOf s Records = s .n
+neededOf s Xs = blocks s
+neededOf s Marks = marksNeeded s
+
+module _ (s : Settings) (l : WithinLimits s) where
+  marks-line : (n : ℕ) → (n < marksNeeded s) ↔ NeedsMore s Marks n
+  unfolding half
+  marks-line n = go (l .modes)
+    where
+      go : (s .mode ≡ 0) ⊎ (s .mode ≡ 1) → (n < marksNeeded s) ↔ NeedsMore s Marks n
+      go (inl once) = rw once (
+        λ h. inl (refl, omega arith),
+        ⊎-elim (λ h. let z = h .1 in omega arith)
+            (λ h. let e = h .0 in absurd (omega arith)),
+      )
+      go (inr long) = rw long (λ h. inr (refl, h), ⊎-elim (λ h. let e = h .0 in absurd (omega arith)) (λ h. h .1))
+
+  pub needs-line : (row : Row) (n : ℕ) → (n < neededOf s row) ↔ NeedsMore s row n
+  unfolding half
+  needs-line Records n = (λ h. h, λ h. h)
+  needs-line Xs n = (λ h. h, λ h. h)
+  needs-line Marks n = marks-line n
+
+  short : (row : Row) (n : ℕ) → Tested (ltb n (neededOf s row)) (NeedsMore s row n)
+  short row n = meaning (below n (neededOf s row)) (needs-line row n)
+
+  pub short-line : (m : Memory) → Tested (rowShort s (length (m .records)) (m .xs) (m .marks)) (SomeRowShort s m)
+  short-line m = either (short Records (length (m .records)))
+      (either (short Xs (length (m .xs))) (short Marks (length (m .marks))))
+
+  -- ---- 3: a needed value is out of range
+
+  -- the places of a scan, by the mode
+  scan-places : (h : ℕ) → (h < width s) ↔ PointWithin s (Scan h)
+  scan-places h = go (l .modes)
+    where
+      go : (s .mode ≡ 0) ⊎ (s .mode ≡ 1) → (h < width s) ↔ PointWithin s (Scan h)
+      go (inl once) =
+          let some = l .n-least in
+          rw once (λ low. (omega arith, λ e. omega arith), λ within. let none = within .1 refl in omega arith)
+      go (inr long) = rw long (λ low. (low, λ e. absurd (omega arith)), λ within. within .0)
+
+  pub point-line : (point : Point) → Tested (pointInRange s point) (PointWithin s point)
+  point-line WriteX = always tt
+  point-line (Scan h) = meaning (below h (width s)) (scan-places h)
+  point-line WriteMark = always tt
+  point-line ReadX = always tt
+  point-line (Clear direction) = same (s .mode) 1
+
+  pub state-line : (state : State) → Tested (stateInRange s state) (StateWithin s state)
+  state-line Idle = always tt
+  state-line (Seeking r c point) = both (most (r + c + 2) (s .k)) (point-line point)
+  state-line (Holding r c) = most (r + c + 1) (s .k)
+
+  -- whether the value at an index is in range, in the definitions
+  abbrev pub inRangeAt : Memory → Row → ℕ → Bool
+  inRangeAt m Records p = recordInRange s (recordOf m p)
+  inRangeAt m Xs block = xInRange s (getD (m .xs) block 0)
+  inRangeAt m Marks index = markInRange (getD (m .marks) index 0)
+
+  above : (a b : ℕ) → Tested (not (leb a b)) (b < a)
+  above a b = meaning (fails (most a b)) (λ none. omega arith, λ high low. omega arith)
+
+  pub bad-line : (m : Memory) (row : Row) (index : ℕ) → Tested (not (inRangeAt m row index)) (BadAt s m row index)
+  bad-line m Records p = fails (state-line (stateOf m p))
+  bad-line m Xs block = above (getD (m .xs) block 0) (s .n)
+  bad-line m Marks index = above (getD (m .marks) index 0) 1
+
+-- ---- 4 to 7: the task
+
+-- two kinds that differ
+other-kind : {A : Type 0} (kind kind′ : Kind) → (kind ≡ kind′ → ⊥) → Tested false ((kind ≡ kind′) × A)
+other-kind kind kind′ other = never (λ h. other (h .0))
+
+-- 5
+pub release-line : (s : Settings) (kind : Kind) → Tested (oneTimeRelease s kind) ((kind ≡ Release) × (s .mode ≡ 0))
+release-line s Ask = other-kind Ask Release (λ e. let z : _≡_ {A = ℕ} 0 1 = cc in omega arith)
+release-line s Turn = other-kind Turn Release (λ e. let z : _≡_ {A = ℕ} 0 1 = cc in omega arith)
+release-line s Release = meaning (same (s .mode) 0) (λ e. (refl, e), λ h. h .1)
+
+-- 6
+idle-tested : (state : State) → Tested (isIdle state) (state ≡ Idle)
+idle-tested Idle = always refl
+idle-tested (Seeking r c point) = never (λ e. let z : _≡_ {A = ℕ} 0 1 = cc in omega arith)
+idle-tested (Holding r c) = never (λ e. let z : _≡_ {A = ℕ} 0 1 = cc in omega arith)
+
+seeking-tested : (state : State) → Tested (not (isSeeking state))
+    ((r c : ℕ) (point : Point) → state ≡ Seeking r c point → ⊥)
+seeking-tested Idle = always (λ r c point e. let z : _≡_ {A = ℕ} 0 1 = cc in omega arith)
+seeking-tested (Seeking r c point) = never (λ none. none r c point refl)
+seeking-tested (Holding r c) = always (λ r c point e. let z : _≡_ {A = ℕ} 0 1 = cc in omega arith)
+
+holding-tested : (state : State) → Tested (not (isHolding state)) ((r c : ℕ) → state ≡ Holding r c → ⊥)
+holding-tested Idle = always (λ r c e. let z : _≡_ {A = ℕ} 0 1 = cc in omega arith)
+holding-tested (Seeking r c point) = always (λ r c e. let z : _≡_ {A = ℕ} 0 1 = cc in omega arith)
+holding-tested (Holding r c) = never (λ none. none r c refl)
+
+pub moment-line : (kind : Kind) (state : State) → Tested (wrongMoment kind state) (NotTheMoment kind state)
+moment-line Ask state = fails (idle-tested state)
+moment-line Turn state = seeking-tested state
+moment-line Release state = holding-tested state
+
+-- 7
+out-same : (state : State) → isOut state ≡ seeksOrHolds state
+out-same Idle = refl
+out-same (Seeking r c point) = refl
+out-same (Holding r c) = refl
+
+pub tasks-out : (s : Settings) (m : Memory) → outOf s (m .records) ≡ tasksOut s m
+tasks-out s m = count-same (λ p. isOut (stateOf m p)) (λ p. seeksOrHolds (stateOf m p)) (s .n)
+    (λ p l. out-same (stateOf m p))
+
+pub out-line : (s : Settings) (kind : Kind) (m : Memory)
+    → Tested (tooManyOut s kind (outOf s (m .records))) ((kind ≡ Ask) × (s .k ≤ tasksOut s m))
+out-line s Ask m = rw (tasks-out s m) (meaning (most (s .k) (tasksOut s m)) (λ many. (refl, many), λ h. h .1))
+out-line s Turn m = other-kind Turn Ask (λ e. let z : _≡_ {A = ℕ} 0 1 = cc in omega arith)
+out-line s Release m = other-kind Release Ask (λ e. let z : _≡_ {A = ℕ} 0 1 = cc in omega arith)

@@ -1,0 +1,68 @@
+-- What it says that the tests of a call passed, in three parts: what is lent is long enough, what it holds is in range,
+-- and the task may.
+use mathlib.Core.{Path._≡_, Bool.false, List.List}
+use Prim.Native.Nat.{ℕ, _≤_, _<_}
+use native.Mathlib.Nat.{le-refl}
+use lib.{Dec.{T, ltb}, ListN.{length, getD}}
+use borrow.Author.Tests.{le-ltb}
+use Rattle.counting.proofs.{Tested.passes, Searching.none-bad}
+use Rattle.machine.specs.{Places.blocks, Records.recordInRange}
+use Rattle.machine.specs.Memory.{Memory, marksNeeded, recordOf, stateOf, xInRange, markInRange, badRecord, badX}
+use Rattle.machine.specs.Memory.{badMark, outOf, viewOf}
+use Rattle.machine.specs.Refusals.{first, rowShort, oneTimeRelease, wrongMoment, tooManyOut, taskCases}
+use Rattle.machine.specs.{Calls.verdictOf, promises.Ranges.WithinLimits}
+use Rattle.machine.specs.declared.{Settings.Settings, Event.Event}
+use Rattle.machine.proofs.refusals.Limits.{limits-tested}
+
+-- what is lent is long enough
+pub record Long (s : Settings) (count : ℕ) (x-row mark-row : List ℕ) : Type 0 where
+  pub records : s .n ≤ count
+  pub xs : blocks s ≤ length x-row
+  pub marks : marksNeeded s ≤ length mark-row
+
+-- what it holds is in range
+pub record InRange (s : Settings) (m : Memory) : Type 0 where
+  pub records : (p : ℕ) → p < s .n → T (recordInRange s (recordOf m p))
+  pub xs : (block : ℕ) → block < blocks s → T (xInRange s (getD (m .xs) block 0))
+  pub marks : (index : ℕ) → index < marksNeeded s → T (markInRange (getD (m .marks) index 0))
+
+-- J0: both, so that tests 2 and 3 pass
+pub record Fit (s : Settings) (m : Memory) : Type 0 where
+  pub long : Long s (length (m .records)) (m .xs) (m .marks)
+  pub in-range : InRange s m
+
+-- the task may: no test of 4 to 7 refuses the call
+pub record May (s : Settings) (event : Event) (m : Memory) : Type 0 where
+  pub known : event .task .0 < s .n
+  pub lived : oneTimeRelease s (event .kind) ≡ false
+  pub moment : wrongMoment (event .kind) (stateOf m (event .task .0)) ≡ false
+  pub room : tooManyOut s (event .kind) (outOf s (m .records)) ≡ false
+
+pub record Passed (s : Settings) (event : Event) (m : Memory) : Type 0 where
+  pub limits : WithinLimits s
+  pub fit : Fit s m
+  pub may : May s event m
+
+-- ---- a fit memory leaves 4 to 7
+
+none-short : (s : Settings) (m : Memory) → Fit s m → rowShort s (length (m .records)) (m .xs) (m .marks) ≡ false
+none-short s m fit =
+    rw (
+      le-ltb (length (m .records)) (s .n) (fit .long .records),
+      le-ltb (length (m .xs)) (blocks s) (fit .long .xs),
+      le-ltb (length (m .marks)) (marksNeeded s) (fit .long .marks),
+    )
+
+none-below : (n first : ℕ) → first ≡ n → ltb first n ≡ false
+none-below n first e = rw e (le-ltb n n (le-refl n))
+
+pub fit-verdict : (s : Settings) (m : Memory) (event : Event) → WithinLimits s → Fit s m
+    → verdictOf s event m ≡ first (taskCases s (event .kind) (event .task .0) (viewOf s (m .records) (event .task .0)))
+fit-verdict s m event l fit =
+    rw (
+      passes (limits-tested s) l,
+      none-short s m fit,
+      none-below (s .n) (badRecord s (m .records)) (none-bad _ (s .n) (fit .in-range .records)),
+      none-below (blocks s) (badX s (m .xs)) (none-bad _ (blocks s) (fit .in-range .xs)),
+      none-below (marksNeeded s) (badMark s (m .marks)) (none-bad _ (marksNeeded s) (fit .in-range .marks)),
+    )

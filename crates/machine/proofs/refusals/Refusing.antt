@@ -1,0 +1,191 @@
+-- Each number of refusal is answered exactly when its line is the first that holds, 3 tells the first bad value, and a
+-- refusal changes nothing.
+use mathlib.Core.{Path.{_≡_, refl}, Logic.{inl, inr, _↔_}, Bool.false, List.{List, []}}
+use Prim.Native.Nat.{ℕ, _≤_}
+use native.Mathlib.Omega.{arith}
+use lib.{Dec.T, ListN.length}
+use Rattle.machine.specs.Memory.{Memory, stateOf, viewOf}
+use Rattle.machine.specs.Refusals.{Case, first, lentCases, rangeCases, taskCases, outsideLimits, rowShort}
+use Rattle.machine.specs.Refusals.{setupVerdict}
+use Rattle.machine.specs.Answers.{said, isAccepted}
+use Rattle.machine.specs.Calls.{Outcome, answerOf, nextState, accept, refuseOr, verdictOf, cleared}
+use Rattle.machine.specs.promises.Ranges.{WithinLimits}
+use Rattle.machine.specs.promises.Refusing.{Line, FirstHolds, RefusedExactly, taskLines, lentLines, rangeLines}
+use Rattle.machine.specs.promises.Refusing.{setupLines, callLines, TellsFirstBad, in-records, in-xs, in-marks}
+use Rattle.machine.specs.promises.Refusing.{callSays, setupSays, CallRefused, RefusalExact, RefusedChangesNothing}
+use Rattle.machine.specs.declared.{Settings.Settings, State.{State, the-variants.{Idle, Seeking, Holding}}}
+use Rattle.machine.specs.declared.{Kind.{Kind, the-variants.{Ask, Turn, Release}}, Event.Event}
+use Rattle.machine.specs.declared.{Row.the-variants.{Records, Xs, Marks}, View.View, Verdict.Verdict}
+use Rattle.machine.specs.declared.Answer.{Answer, the-variants.{Done, Seeks, Holds, Freed, Refused}}
+use Rattle.counting.proofs.Tested.{most, fails, passes, misses, cannot-fail}
+use Rattle.machine.proofs.refusals.Limits.{limits-tested}
+use Rattle.machine.proofs.refusals.Lines.{short-line, release-line, moment-line, out-line}
+use Rattle.machine.proofs.refusals.BadValue.{found-line, first-found}
+use Rattle.machine.proofs.refusals.Deciding.{refusal-says, Are, refused-exactly, refusal-keeps}
+
+-- ---- what answers say
+
+-- an answer is accepted exactly if its number is 0
+pub accepted-zero : (answer : Answer) → T (isAccepted answer) ↔ (said answer .number ≡ 0)
+accepted-zero Done = (λ t. refl, λ e. tt)
+accepted-zero Seeks = (λ t. refl, λ e. tt)
+accepted-zero (Holds name) = (λ t. refl, λ e. tt)
+accepted-zero (Freed name) = (λ t. refl, λ e. tt)
+accepted-zero (Refused why) = (λ t. absurd t, λ e. let low = refusal-says why .0 in absurd (omega arith))
+
+-- what the rules answer is no refusal
+rules-accept : (s : Settings) (kind : Kind) (before after : State) → T (isAccepted (answerOf s kind before after))
+rules-accept s Ask before Idle = tt
+rules-accept s Ask before (Seeking r c point) = tt
+rules-accept s Ask before (Holding r c) = tt
+rules-accept s Turn before Idle = tt
+rules-accept s Turn before (Seeking r c point) = tt
+rules-accept s Turn before (Holding r c) = tt
+rules-accept s Release Idle after = tt
+rules-accept s Release (Seeking r c point) after = tt
+rules-accept s Release (Holding r c) after = tt
+
+-- what becomes of a call, and of a setup, that is accepted
+abbrev pub ruled : Settings → Event → Memory → Outcome
+ruled s event m = accept s (event .kind) (event .task .0) (stateOf m (event .task .0)) m
+
+abbrev pub started : Settings → Memory → Outcome
+started s m = record { answer = Done; memory = cleared s m }
+
+pub ruled-accepted : (s : Settings) (event : Event) (m : Memory) → T (isAccepted (ruled s event m .answer))
+ruled-accepted s event m =
+    rules-accept s (event .kind) (stateOf m (event .task .0))
+    (nextState s (event .kind) (event .task .0) (stateOf m (event .task .0)) m)
+
+-- ---- the cases of the definitions are the lines of the table
+
+-- settings that are not outside the limits are within
+pub within : (s : Settings) → ((WithinLimits s → ⊥) → ⊥) → WithinLimits s
+within s = cannot-fail (limits-tested s)
+
+-- 1 and 2, whichever task looks; what follows is tested within the limits
+lent-are : (s : Settings) (p : ℕ) (m : Memory) (cases : List Case) (lines : List Line)
+    → (WithinLimits s → Are cases lines)
+    → Are (lentCases s (viewOf s (m .records) p) (m .xs) (m .marks) cases) (lentLines s m lines)
+lent-are s p m cases lines rest = (
+  record { numbered = refl; tested = fails (limits-tested s) },
+  λ fair. (record { numbered = refl; tested = short-line s (within s fair) m }, λ whole. rest (within s fair)),
+)
+
+module _ (s : Settings) (event : Event) (m : Memory) where
+  abbrev seen : View
+  seen = viewOf s (m .records) (event .task .0)
+
+  -- 3
+  range-are : (l : WithinLimits s) (cases : List Case) (lines : List Line) → Are cases lines
+      → Are (rangeCases s seen (m .xs) (m .marks) cases) (rangeLines s m lines)
+  range-are l cases lines rest = (
+    record { numbered = refl; tested = found-line s l m Records },
+    λ records. (
+      record { numbered = refl; tested = found-line s l m Xs },
+      λ xs. (record { numbered = refl; tested = found-line s l m Marks }, λ marks. rest),
+    ),
+  )
+
+  -- 4 to 7
+  task-are : Are (taskCases s (event .kind) (event .task .0) seen) (taskLines s event m)
+  task-are = (
+    record { numbered = refl; tested = most (s .n) (event .task .0) },
+    λ known. (
+      record { numbered = refl; tested = release-line s (event .kind) },
+      λ lived. (
+        record { numbered = refl; tested = moment-line (event .kind) (stateOf m (event .task .0)) },
+        λ moment. (record { numbered = refl; tested = out-line s (event .kind) m }, λ room. tt),
+      ),
+    ),
+  )
+
+  abbrev ownCases : List Case
+  ownCases = taskCases s (event .kind) (event .task .0) seen
+
+  abbrev heldCases : List Case
+  heldCases = rangeCases s seen (m .xs) (m .marks) ownCases
+
+  call-are : Are (lentCases s seen (m .xs) (m .marks) heldCases) (callLines s event m)
+  call-are = lent-are s (event .task .0) m heldCases (rangeLines s m (taskLines s event m))
+      (λ l. range-are l ownCases (taskLines s event m) task-are)
+
+  call-exactly : RefusedExactly (callSays s event m) (callLines s event m)
+  call-exactly =
+      refused-exactly (λ v. said (refuseOr v m (ruled s event m) .answer))
+      (accepted-zero (ruled s event m .answer) .0 (ruled-accepted s event m)) (λ why. refl)
+      (lentCases s seen (m .xs) (m .marks) heldCases) (callLines s event m) call-are
+
+  -- ---- 3 tells the first bad value
+
+  tells-first-bad : FirstHolds (callLines s event m) 3 → TellsFirstBad s m (callSays s event m .values)
+  tells-first-bad (inl (limits, e)) = absurd (omega arith)
+  tells-first-bad (inr (fair, inl (short, e))) = absurd (omega arith)
+  tells-first-bad (inr (fair, inr (long, three))) = rw (inside, whole) (go three)
+    where
+      l : WithinLimits s
+      l = within s fair
+
+      inside : outsideLimits s ≡ false
+      inside = misses (fails (limits-tested s)) fair
+
+      whole : rowShort s (length (m .records)) (m .xs) (m .marks) ≡ false
+      whole = misses (short-line s l m) long
+
+      go : FirstHolds (rangeLines s m (taskLines s event m)) 3
+          → TellsFirstBad s m (said (refuseOr (first heldCases) m (ruled s event m) .answer) .values)
+      go (inl (bad, e)) = rw (passes (found-line s l m Records) bad)
+          (in-records (first-found s l m Records (found-line s l m Records .shows bad)))
+      go (inr (records, inl (bad, e))) =
+          rw (misses (found-line s l m Records) records, passes (found-line s l m Xs) bad)
+          (in-xs records (first-found s l m Xs (found-line s l m Xs .shows bad)))
+      go (inr (records, inr (xs, inl (bad, e)))) =
+          rw (
+            misses (found-line s l m Records) records,
+            misses (found-line s l m Xs) xs,
+            passes
+                (found-line s l m Marks) bad,
+          )
+          (in-marks records xs (first-found s l m Marks (found-line s l m Marks .shows bad)))
+      go (inr (records, inr (xs, inr (marks, inl (four, e))))) = absurd (omega arith)
+      go (inr (records, inr (xs, inr (marks, inr (known, inl (five, e)))))) = absurd (omega arith)
+      go (inr (records, inr (xs, inr (marks, inr (known, inr (lived, inl (six, e))))))) = absurd (omega arith)
+      go (inr (records, inr (xs, inr (marks, inr (known, inr (lived, inr (moment, inl (seven, e)))))))) =
+          absurd (omega arith)
+      go (inr (records, inr (xs, inr (marks, inr (known, inr (lived, inr (moment, inr (room, none)))))))) = absurd none
+
+  pub call-refused : CallRefused s event m
+  call-refused = record {
+    exactly = call-exactly;
+    three-adds = λ three. tells-first-bad (call-exactly .refused 3 (omega arith) .0 three);
+  }
+
+-- ---- setup
+
+pub setup-exactly : (s : Settings) (m : Memory) → RefusedExactly (setupSays s m) (setupLines s m)
+setup-exactly s m =
+    refused-exactly (λ v. said (refuseOr v m (started s m) .answer)) refl (λ why. refl)
+    (lentCases s (viewOf s (m .records) 0) (m .xs) (m .marks) []) (setupLines s m) (lent-are s 0 m [] [] (λ l. tt))
+
+pub refusal-exact : RefusalExact
+refusal-exact = record {
+  calls = call-refused;
+  setups = setup-exactly;
+  acceptance = accepted-zero;
+  numbered = λ why. refl;
+}
+
+-- ---- a refusal changes nothing
+
+unchanged : (m : Memory) (outcome : Outcome) → said (outcome .answer) .number ≡ 0 → (v : Verdict)
+    → 1 ≤ said (refuseOr v m outcome .answer) .number
+    → refuseOr v m outcome .memory ≡ m
+unchanged m outcome zero = refusal-keeps (λ v. said (refuseOr v m outcome .answer)) zero (λ why. refl)
+    (λ v. refuseOr v m outcome .memory) m (λ why. refl)
+
+pub refused-changes-nothing : RefusedChangesNothing
+refused-changes-nothing = record {
+  calls = λ s event m. unchanged m (ruled s event m)
+      (accepted-zero (ruled s event m .answer) .0 (ruled-accepted s event m)) (verdictOf s event m);
+  setups = λ s m. unchanged m (started s m) refl (setupVerdict s (viewOf s (m .records) 0) (m .xs) (m .marks));
+}

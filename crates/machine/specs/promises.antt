@@ -1,0 +1,10 @@
+-- The promises, each in terms of document 01 or of the user's demands.
+pub mod Numbers
+pub mod Ranges
+pub mod Refusing
+pub mod SettingUp
+pub mod Rules
+pub mod OneAccess
+pub mod Surplus
+pub mod Telling
+pub mod Demands

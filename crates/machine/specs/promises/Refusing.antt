@@ -1,0 +1,144 @@
+-- 01, "Numbers of refusal": "given exactly when", as tables of plain lines in the order in which they are tested. A
+-- line carries its own number. Settings, task number and memory are any. The tests of the definitions are not cited.
+-- Theorems: `refusal-exact`, `no-other-number`, `refused-changes-nothing`, `block-by-block`.
+use mathlib.Core.{Path._≡_, Logic.{_⊎_, _↔_}, List.{List, [], _∷_}}
+use Prim.Native.Nat.{ℕ, _≤_, _<_}
+use lib.{Dec.T, ListN.length}
+use Rattle.machine.specs.{Settings.width, Memory.{Memory, markIndex, stateOf}}
+use Rattle.machine.specs.{Answers.{Said, said, numberOf, isAccepted}, Calls.{call, setup}}
+use Rattle.machine.specs.promises.Ranges.{WithinLimits, NeedsMore, OutOfRangeAt, SomeOutOfRange, seeksOrHolds}
+use Rattle.machine.specs.declared.{Settings.Settings, Point.Point}
+use Rattle.machine.specs.declared.State.{State, the-variants.{Idle, Seeking, Holding}}
+use Rattle.machine.specs.declared.{Kind.{Kind, the-variants.{Ask, Turn, Release}}, Event.Event}
+use Rattle.machine.specs.declared.{Row.{Row, the-variants.{Records, Xs, Marks}}, Refusal.Refusal, Answer.Answer}
+use Rattle.counting.specs.Counting.{count}
+
+-- ---- the form of every table
+
+-- a line of a table: a number of refusal, and when it is given
+pub record Line : Type 1 where
+  pub number : ℕ
+  pub holds : Type 0
+
+abbrev pub line : ℕ → Type 0 → Line
+line number holds = record { number = number; holds = holds }
+
+-- no line holds
+abbrev pub NoneHolds : List Line → Type 0
+NoneHolds [] = Unit {0}
+NoneHolds (this ∷ lines) = (this .holds → ⊥) × NoneHolds lines
+
+-- a line of number n holds, and no line before it does
+abbrev pub FirstHolds : List Line → ℕ → Type 0
+FirstHolds [] n = ⊥
+FirstHolds (this ∷ lines) n = (this .holds × (this .number ≡ n)) ⊎ ((this .holds → ⊥) × FirstHolds lines n)
+
+-- 00: "It is refused exactly in the listed cases, by the first number in the listed order"; 01: a refusal "answers its
+-- number and nothing more, except that 3 adds which row and the index"
+pub record RefusedExactly (says : Said) (lines : List Line) : Type 0 where
+  pub refused : (n : ℕ) → 1 ≤ n → (says .number ≡ n) ↔ FirstHolds lines n
+  pub accepted : (says .number ≡ 0) ↔ NoneHolds lines
+  pub nothing-more : 1 ≤ says .number → (says .number ≡ 3 → ⊥) → says .values ≡ []
+
+-- so no number is answered that the table does not have
+abbrev pub Numbered : List Line → ℕ → Type 0
+Numbered [] n = n ≡ 0
+Numbered (this ∷ lines) n = (n ≡ this .number) ⊎ Numbered lines n
+
+abbrev pub NoOtherNumber : Type 1
+NoOtherNumber = (says : Said) (lines : List Line) → RefusedExactly says lines → Numbered lines (says .number)
+
+-- ---- the table of 01
+
+-- 2: a lent row is shorter than needed
+abbrev pub SomeRowShort : Settings → Memory → Type 0
+SomeRowShort s m =
+    NeedsMore s Records (length (m .records))
+    ⊎ (NeedsMore s Xs (length (m .xs)) ⊎ NeedsMore s Marks (length (m .marks)))
+
+-- 6: ask when not idle; turn when not seeking; release when not holding
+abbrev pub NotTheMoment : Kind → State → Type 0
+NotTheMoment Ask state = state ≡ Idle → ⊥
+NotTheMoment Turn state = (r c : ℕ) (point : Point) → state ≡ Seeking r c point → ⊥
+NotTheMoment Release state = (r c : ℕ) → state ≡ Holding r c → ⊥
+
+-- 7: how many tasks are out, "seekers and holders counted from the records"
+abbrev pub tasksOut : Settings → Memory → ℕ
+tasksOut s m = count (λ p. seeksOrHolds (stateOf m p)) (s .n)
+
+-- 1 and 2: what is lent
+abbrev pub lentLines : Settings → Memory → List Line → List Line
+lentLines s m rest =
+    line 1 (WithinLimits s → ⊥)  -- settings outside the limits
+    ∷ line 2 (SomeRowShort s m)  -- a lent row is shorter than needed
+    ∷ rest
+
+-- 3: what it holds, "records first, then X, then marks"
+abbrev pub rangeLines : Settings → Memory → List Line → List Line
+rangeLines s m rest =
+    line 3 (SomeOutOfRange s m Records)  -- a needed value is out of range
+    ∷ line 3 (SomeOutOfRange s m Xs)
+    ∷ line 3 (SomeOutOfRange s m Marks)
+    ∷ rest
+
+-- 4 to 7: the task
+abbrev pub taskLines : Settings → Event → Memory → List Line
+taskLines s event m =
+    line 4 (s .n ≤ event .task .0)  -- identifier ≥ N
+    ∷ line 5 ((event .kind ≡ Release) × (s .mode ≡ 0))  -- release in mode 0
+    ∷ line 6 (NotTheMoment (event .kind) (stateOf m (event .task .0)))  -- ask when not idle; turn when not seeking; release when not holding
+    ∷ line 7 ((event .kind ≡ Ask) × (s .k ≤ tasksOut s m))  -- ask when k or more tasks are out
+    ∷ []
+
+-- "Setup tests 1, 2; the other calls 1 to 7 ascending."
+abbrev pub setupLines : Settings → Memory → List Line
+setupLines s m = lentLines s m []
+
+abbrev pub callLines : Settings → Event → Memory → List Line
+callLines s event m = lentLines s m (rangeLines s m (taskLines s event m))
+
+-- ---- "3 adds which row and the index of the first bad value"
+
+-- the first bad value of a row
+pub record FirstBad (s : Settings) (m : Memory) (row : Row) (index : ℕ) : Type 0 where
+  pub bad : OutOfRangeAt s m row index
+  pub none-before : (earlier : ℕ) → earlier < index → OutOfRangeAt s m row earlier → ⊥
+
+-- "records first, then X, then marks": the rows are told as 0, 1 and 2
+pub data TellsFirstBad (s : Settings) (m : Memory) : List ℕ → Type 0 where
+  in-records : {index : ℕ} → FirstBad s m Records index → TellsFirstBad s m (0 ∷ index ∷ [])
+  in-xs : {index : ℕ} → (SomeOutOfRange s m Records → ⊥) → FirstBad s m Xs index → TellsFirstBad s m (1 ∷ index ∷ [])
+  in-marks : {index : ℕ} → (SomeOutOfRange s m Records → ⊥) → (SomeOutOfRange s m Xs → ⊥) → FirstBad s m Marks index
+      → TellsFirstBad s m (2 ∷ index ∷ [])
+
+-- "searched block by block and place by place": the order of the indices of marks
+abbrev pub BlockByBlock : Type 0
+BlockByBlock =
+    (s : Settings) (block place block′ place′ : ℕ) → place < width s → place′ < width s
+    → (markIndex s block place < markIndex s block′ place′) ↔ ((block < block′) ⊎ ((block ≡ block′) × (place < place′)))
+
+-- ---- every call
+
+abbrev pub callSays : Settings → Event → Memory → Said
+callSays s event m = said (call s event m .answer)
+
+abbrev pub setupSays : Settings → Memory → Said
+setupSays s m = said (setup s m .answer)
+
+pub record CallRefused (s : Settings) (event : Event) (m : Memory) : Type 0 where
+  pub exactly : RefusedExactly (callSays s event m) (callLines s event m)
+  pub three-adds : callSays s event m .number ≡ 3 → TellsFirstBad s m (callSays s event m .values)
+
+pub record RefusalExact : Type 0 where
+  pub calls : (s : Settings) (event : Event) (m : Memory) → CallRefused s event m
+  pub setups : (s : Settings) (m : Memory) → RefusedExactly (setupSays s m) (setupLines s m)
+  -- an answer is an acceptance exactly if it has no number of refusal, and a refusal's number is the one that its
+  -- answer has
+  pub acceptance : (answer : Answer) → T (isAccepted answer) ↔ (said answer .number ≡ 0)
+  pub numbered : (why : Refusal) → numberOf why ≡ said (Answer.Refused why) .number
+
+-- ---- "A refusal changes no lent element"
+
+pub record RefusedChangesNothing : Type 0 where
+  pub calls : (s : Settings) (event : Event) (m : Memory) → 1 ≤ callSays s event m .number → call s event m .memory ≡ m
+  pub setups : (s : Settings) (m : Memory) → 1 ≤ setupSays s m .number → setup s m .memory ≡ m

@@ -1,0 +1,18 @@
+-- 01, "Rules of the grid": "Setup makes the N records idle, all X 0 and all marks 0." It "answers that it is done".
+-- Theorem: `setup-clears`.
+use mathlib.Core.{Path._≡_, Logic._↔_}
+use lib.ListN.{replicate}
+use Rattle.machine.specs.{Places.blocks, Records.idle, Memory.{Memory, marksNeeded}, Calls.setup}
+use Rattle.machine.specs.declared.{Settings.Settings, Answer.Answer}
+use Rattle.machine.specs.promises.{Refusing.{NoneHolds, setupLines}, Surplus.needed}
+
+-- N records idle, all X 0 and all marks 0
+abbrev pub clear : Settings → Memory
+clear s = record { records = replicate (s .n) idle; xs = replicate (blocks s) 0; marks = replicate (marksNeeded s) 0 }
+
+pub record SetupClears (s : Settings) (m : Memory) : Type 0 where
+  pub done : (setup s m .answer ≡ Answer.Done) ↔ NoneHolds (setupLines s m)
+  pub clears : NoneHolds (setupLines s m) → needed s (setup s m .memory) ≡ clear s
+
+abbrev pub EachSetupClears : Type 0
+EachSetupClears = (s : Settings) (m : Memory) → SetupClears s m
