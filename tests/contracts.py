@@ -55,7 +55,8 @@ def rows(text):
 def lemmas(crate):
     """The public lemmas, of no one function, of a crate and of those that it is built on, each with its type."""
     below = re.search(rf'^{crate}:(.*)', read('crates.txt'), re.M).group(1).split()
-    paths = [path for c in [crate, *below] for path in glob.glob(os.path.join(CRATES, c, 'proofs', '*.antt'))]
+    paths = [path for c in [crate, *below] for path in glob.glob(os.path.join(CRATES, c, 'proofs', '**', '*.antt'), recursive=True)
+             if not path.endswith('Proof.antt')]
     return {f'`{name}`': told for path in paths for name, told in LEMMA.findall(read(path))}
 
 
