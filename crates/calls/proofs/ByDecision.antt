@@ -82,4 +82,4 @@ by-preparation s records m = go (seenSetupVerdict s (viewOf s records 0) m) refl
         ≡ refuseOr v (beside records m) (leaves Answer.Done (cleared s (beside records m)))
     go (Verdict.Refused why) e = refl
     go Verdict.Accepted e = rw (cleared-fill (s .n) records
-        (lent-passes s (viewOf s records 0) m e .long .records-long))
+        (lent-passes s (viewOf s records 0) m e .long .records))

@@ -7,33 +7,33 @@ use Rattle.machine.specs.{Settings.permitted, Records.recordInRange, Memory.Mem
 use Rattle.machine.specs.{Refusals.{wrongMoment, lentCases, rangeCases, taskCases}, promises.OneAccess.RegisterNeeded}
 use Rattle.machine.specs.declared.{Settings.Settings, View.View, Record.Record, Access.Access, Kind.Kind}
 use Rattle.machine.specs.declared.Verdict.{Verdict}
-use Rattle.machine.proofs.{refusals.{Deciding.no-case, Limits.limits}, calls.OneAccess.access-needed}
+use Rattle.machine.proofs.refusals.{Deciding.no-case, Limits.limits, Passed.{Long, none-short-long}}
+use Rattle.machine.proofs.calls.OneAccess.{access-needed}
 use Rattle.rules.specs.Decision.{Sees, seenVerdict, Touched, touched, touching}
-use Rattle.rules.proofs.Rows.{Long, none-short}
 use Rattle.machine.proofs.calls.Fitting as fitting
 
-pub record Accepts (s : Settings) (kind : Kind) (p : ℕ) (seen : View) (m : Memory) : Type 0 where
+pub record SeenPassed (s : Settings) (kind : Kind) (p : ℕ) (seen : View) (m : Memory) : Type 0 where
   pub limits : T (permitted s)
   pub long : Long s (seen .length) m
   pub known : p < s .n
   pub moment : wrongMoment kind (seen .own .state) ≡ false
   pub own-in-range : T (recordInRange s (seen .own))
 
-pub accepts : (s : Settings) (kind : Kind) (p : ℕ) (seen : View) (m : Memory) → Sees s p seen
-    → seenVerdict s kind p seen m ≡ Verdict.Accepted → Accepts s kind p seen m
-accepts s kind p seen m sees e =
+pub seen-passed : (s : Settings) (kind : Kind) (p : ℕ) (seen : View) (m : Memory) → Sees s p seen
+    → seenVerdict s kind p seen m ≡ Verdict.Accepted → SeenPassed s kind p seen m
+seen-passed s kind p seen m sees e =
     let (inside, (short, (records, (x-numbers, (mark-row, (unknown, (lived, (moment, last)))))))) =
     no-case (lentCases s seen (m .xs) (m .marks) (rangeCases s seen (m .xs) (m .marks) (taskCases s kind p seen))) e in
     let known = leb-false (s .n) p unknown in
     record {
       limits = subst T (sym (not-false (permitted s) inside)) tt;
-      long = none-short s (seen .length) m short;
+      long = none-short-long s (seen .length) m short;
       known = known;
       moment = moment;
       own-in-range = sees records known;
     }
 
-module _ {s : Settings} {kind : Kind} {p : ℕ} {seen : View} {m : Memory} (ok : Accepts s kind p seen m) (touch : Access)
+module _ {s : Settings} {kind : Kind} {p : ℕ} {seen : View} {m : Memory} (ok : SeenPassed s kind p seen m) (touch : Access)
     (is : touch ≡ access s kind p (seen .own .state)) where
   -- the access is of a register that is needed
   pub touch-needed : RegisterNeeded s touch

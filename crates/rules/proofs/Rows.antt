@@ -1,35 +1,13 @@
--- What it says of the rows that none is short, and what it says that the tests of what is lent pass.
-use mathlib.Core.{Path.{_≡_, refl, ap, _∙_}, Bool.{Bool, true, false, not, _||_, cond}, List.[]}
-use Prim.Native.Nat.{ℕ, _≤_}
+-- What it says that the tests of what is lent pass, and the verdict by its parts.
+use mathlib.Core.{Path.{_≡_, refl, ap, _∙_}, Bool.{Bool, true, false, not, cond}, List.[]}
+use Prim.Native.Nat.{ℕ}
 use native.Mathlib.Omega.{arith}
-use lib.{Dec.{T, ltb}, ListN.length}
-use borrow.Author.Tests.{ltb-false}
+use lib.Dec.{T, ltb}
 use Rattle.machine.specs.{Settings.permitted, Places.blocks, Memory.{Memory, marksNeeded, badX, badMark}}
 use Rattle.machine.specs.Refusals.{first, outsideLimits, rowShort, rangeCases, taskCases}
 use Rattle.machine.specs.declared.{Settings.Settings, View.View, Kind.Kind, Refusal.Refusal, Verdict.Verdict}
+use Rattle.machine.proofs.refusals.Passed.{Long, none-short-long}
 use Rattle.rules.specs.Decision.{seenVerdict, seenSetupVerdict}
-
-none-of-three : (a b c : Bool) → a || (b || c) ≡ false → (a ≡ false) × (b ≡ false) × (c ≡ false)
-none-of-three true b c e = absurd (let z : _≡_ {A = ℕ} 0 1 = cc in omega arith)
-none-of-three false true c e = absurd (let z : _≡_ {A = ℕ} 0 1 = cc in omega arith)
-none-of-three false false c e = (refl, refl, e)
-
--- the rows have at least what is needed
-pub record Long (s : Settings) (records : ℕ) (m : Memory) : Type 0 where
-  pub records-long : s .n ≤ records
-  pub xs-long : blocks s ≤ length (m .xs)
-  pub marks-long : marksNeeded s ≤ length (m .marks)
-
-pub none-short : (s : Settings) (records : ℕ) (m : Memory) → rowShort s records (m .xs) (m .marks) ≡ false
-    → Long s records m
-none-short s records m e =
-    let each =
-    none-of-three (ltb records (s .n)) (ltb (length (m .xs)) (blocks s)) (ltb (length (m .marks)) (marksNeeded s)) e in
-    record {
-      records-long = ltb-false records (s .n) (each .0);
-      xs-long = ltb-false (length (m .xs)) (blocks s) (each .1);
-      marks-long = ltb-false (length (m .marks)) (marksNeeded s) (each .2);
-    }
 
 lent-of : (ok short : Bool) (why other : Refusal)
     → cond (not ok) (Verdict.Refused why) (cond short (Verdict.Refused other) Verdict.Accepted) ≡ Verdict.Accepted
@@ -39,21 +17,21 @@ lent-of true true why other e = absurd (let z : _≡_ {A = ℕ} 0 1 = cc in omeg
 lent-of true false why other e = (tt, refl)
 
 -- the two tests of what is lent pass
-pub record Lent (s : Settings) (seen : View) (m : Memory) : Type 0 where
+pub record LentPassed (s : Settings) (seen : View) (m : Memory) : Type 0 where
   pub limits : T (permitted s)
   pub none-is-short : rowShort s (seen .length) (m .xs) (m .marks) ≡ false
   pub long : Long s (seen .length) m
 
 pub lent-passes : (s : Settings) (seen : View) (m : Memory) → seenSetupVerdict s seen m ≡ Verdict.Accepted
-    → Lent s seen m
+    → LentPassed s seen m
 lent-passes s seen m e =
     let (limits, short) =
     lent-of (permitted s) (rowShort s (seen .length) (m .xs) (m .marks)) Refusal.Limits Refusal.ShortRow e in
-    record { limits = limits; none-is-short = short; long = none-short s (seen .length) m short }
+    record { limits = limits; none-is-short = short; long = none-short-long s (seen .length) m short }
 
 -- ---- the verdict by its three parts
 
--- a first verdict, and if it accepts, a second
+-- a first verdict, and if it seen-passed, a second
 abbrev pub then : Verdict → Verdict → Verdict
 then Verdict.Accepted later = later
 then (Verdict.Refused why) later = Verdict.Refused why

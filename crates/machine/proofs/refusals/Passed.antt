@@ -1,11 +1,11 @@
 -- What it says that the tests of a call passed, in three parts: what is lent is long enough, what it holds is in range,
 -- and the task may.
-use mathlib.Core.{Path._≡_, Bool.false, List.List}
+use mathlib.Core.{Path._≡_, Logic.{_⊎_, inl, inr}, Bool.false}
+use native.Mathlib.{Omega.arith, Nat.le-refl}
 use Prim.Native.Nat.{ℕ, _≤_, _<_}
-use native.Mathlib.Nat.{le-refl}
 use lib.{Dec.{T, ltb}, ListN.{length, getD}}
 use borrow.Author.Tests.{le-ltb}
-use Rattle.counting.proofs.{Tested.passes, Searching.none-bad}
+use Rattle.counting.proofs.{Tested.{Tested, below, either, passes}, Searching.none-bad}
 use Rattle.machine.specs.{Places.blocks, Records.recordInRange}
 use Rattle.machine.specs.Memory.{Memory, marksNeeded, recordOf, stateOf, xInRange, markInRange, badRecord, badX}
 use Rattle.machine.specs.Memory.{badMark, outOf, viewOf}
@@ -15,10 +15,10 @@ use Rattle.machine.specs.declared.{Settings.Settings, Event.Event}
 use Rattle.machine.proofs.refusals.Limits.{limits-tested}
 
 -- what is lent is long enough
-pub record Long (s : Settings) (count : ℕ) (x-row mark-row : List ℕ) : Type 0 where
+pub record Long (s : Settings) (count : ℕ) (m : Memory) : Type 0 where
   pub records : s .n ≤ count
-  pub xs : blocks s ≤ length x-row
-  pub marks : marksNeeded s ≤ length mark-row
+  pub xs : blocks s ≤ length (m .xs)
+  pub marks : marksNeeded s ≤ length (m .marks)
 
 -- what it holds is in range
 pub record InRange (s : Settings) (m : Memory) : Type 0 where
@@ -28,7 +28,7 @@ pub record InRange (s : Settings) (m : Memory) : Type 0 where
 
 -- J0: both, so that tests 2 and 3 pass
 pub record Fit (s : Settings) (m : Memory) : Type 0 where
-  pub long : Long s (length (m .records)) (m .xs) (m .marks)
+  pub long : Long s (length (m .records)) m
   pub in-range : InRange s m
 
 -- the task may: no test of 4 to 7 refuses the call
@@ -42,6 +42,23 @@ pub record Passed (s : Settings) (event : Event) (m : Memory) : Type 0 where
   pub limits : WithinLimits s
   pub fit : Fit s m
   pub may : May s event m
+
+-- ---- 2: no row is short
+
+short-tested : (s : Settings) (count : ℕ) (m : Memory)
+    → Tested (rowShort s count (m .xs) (m .marks))
+    ((count < s .n) ⊎ ((length (m .xs) < blocks s) ⊎ (length (m .marks) < marksNeeded s)))
+short-tested s count m =
+    either (below count (s .n)) (either (below (length (m .xs)) (blocks s)) (below (length (m .marks)) (marksNeeded s)))
+
+pub none-short-long : (s : Settings) (count : ℕ) (m : Memory) → rowShort s count (m .xs) (m .marks) ≡ false
+    → Long s count m
+none-short-long s count m e =
+    let none : T (rowShort s count (m .xs) (m .marks)) → ⊥ = λ t. let z : T false = rw e at t in z in
+    let records : count < s .n → ⊥ = λ l. none (short-tested s count m .shows (inl l)) in
+    let xs : length (m .xs) < blocks s → ⊥ = λ l. none (short-tested s count m .shows (inr (inl l))) in
+    let marks : length (m .marks) < marksNeeded s → ⊥ = λ l. none (short-tested s count m .shows (inr (inr l))) in
+    record { records = omega arith; xs = omega arith; marks = omega arith }
 
 -- ---- a fit memory leaves 4 to 7
 

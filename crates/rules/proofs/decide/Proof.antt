@@ -5,7 +5,7 @@ use denote.Ref.{now}
 use Rattle.machine.{specs.{Memory.Memory, declared.Verdict.Verdict}, proofs.Tests.tests}
 use Rattle.rules.specs.Decision.{rows, seenVerdict}
 use Rattle.rules.proofs.Deciding.{refused-decided, accepted-decided}
-use Rattle.rules.proofs.{Accepting.{Accepts, accepts, touch-needed, next-in-range}, decide.Statement.statement}
+use Rattle.rules.proofs.{Accepting.{SeenPassed, seen-passed, touch-needed, next-in-range}, decide.Statement.statement}
 use Rattle.rules.proofs.decide.Tie as tie
 
 abbrev registers : tie.Start → Memory
@@ -22,9 +22,9 @@ accepted : (c : tie.After-enum-told) → said (start c) ≡ Verdict.Accepted
 accepted c = sym (c .before .before .verdict .ensures) ∙ c .enum-told .given .1
 
 passed : (c : tie.After-enum-told)
-    → Accepts (start c .args .s) (start c .args .event .kind) (start c .args .event .task .0) (start c .args .seen)
+    → SeenPassed (start c .args .s) (start c .args .event .kind) (start c .args .event .task .0) (start c .args .seen)
     (registers (start c))
-passed c = accepts _ _ _ _ (registers (start c)) (start c .pre) (accepted c)
+passed c = seen-passed _ _ _ _ (registers (start c)) (start c .pre) (accepted c)
 
 access-requires : tie.Need-access-requires
 access-requires c κs = (passed c .limits, passed c .own-in-range)
@@ -32,7 +32,7 @@ access-requires c κs = (passed c .limits, passed c .own-in-range)
 touch-requires : tie.Need-touch-requires
 touch-requires c κs =
     let ok = passed (c .before .before .before) in
-    (ok .limits, touch-needed ok _ (c .before .before .access .ensures), ok .long .xs-long, ok .long .marks-long)
+    (ok .limits, touch-needed ok _ (c .before .before .access .ensures), ok .long .xs, ok .long .marks)
 
 next-requires : tie.Need-next-requires
 next-requires c κs =

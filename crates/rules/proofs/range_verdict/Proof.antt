@@ -3,9 +3,10 @@ use mathlib.Core.{Path.{_≡_, _∙_, sym, ap₂}, Bool.{Bool, true, false}}
 use lib.Dec.{ltb}
 use borrow.Author.Tests.{lt-ltb, le-ltb}
 use denote.Ref.{now}
-use Rattle.machine.{specs.{Places.blocks, Memory.{marksNeeded, badX, badMark}}, proofs.Tests.tests}
+use Rattle.machine.specs.{Places.blocks, Memory.{marksNeeded, badX, badMark}}
+use Rattle.machine.proofs.{Tests.tests, refusals.Passed.{Long, none-short-long}}
 use Rattle.rules.specs.Decision.{rows}
-use Rattle.rules.proofs.{Rows.{Long, none-short}, range_verdict.Statement.statement}
+use Rattle.rules.proofs.range_verdict.Statement.{statement}
 use Rattle.rules.proofs.range_verdict.Tie as tie
 
 -- whether a row has a bad value
@@ -19,7 +20,7 @@ abbrev bad-mark : tie.Start → Bool
 bad-mark c = ltb (badMark (c .args .s) (now (c .args .marks))) (marksNeeded (c .args .s))
 
 long : (c : tie.Start) → Long (c .args .s) (c .args .seen .length) (rows (now (c .args .xs)) (now (c .args .marks)))
-long c = none-short _ _ (rows (now (c .args .xs)) (now (c .args .marks))) (c .pre .1)
+long c = none-short-long _ _ (rows (now (c .args .xs)) (now (c .args .marks))) (c .pre .1)
 
 -- from here on the records are in range
 records-good : (c : tie.Else1) → bad-record (c .before .before .before .before) ≡ false
@@ -31,7 +32,7 @@ xs-good c =
     ap₂ ltb (sym (c .before .before .bad-x .ensures)) (sym (c .before .blocks2 .ensures)) ∙ le-ltb _ _ (c .if2 .left)
 
 bad-x-requires : tie.Need-bad-x-requires
-bad-x-requires c κs = let a = c .before .before .before .before in (a .pre .0, long a .xs-long)
+bad-x-requires c κs = let a = c .before .before .before .before in (a .pre .0, long a .xs)
 
 returns-2 : tie.Need-returns-2
 returns-2 c =
@@ -42,7 +43,7 @@ returns-2 c =
 
 bad-mark-requires : tie.Need-bad-mark-requires
 bad-mark-requires c κs =
-    let a = c .before .before .before .before .before .before .before in (a .pre .0, long a .marks-long)
+    let a = c .before .before .before .before .before .before .before in (a .pre .0, long a .marks)
 
 returns-3 : tie.Need-returns-3
 returns-3 c =

@@ -4,7 +4,7 @@ use native.Mathlib.Omega.{arith}
 use denote.Ref.{now}
 use Rattle.machine.{specs.{Memory.{Memory, fill}, declared.Verdict.Verdict}, proofs.Tests.tests}
 use Rattle.rules.specs.Decision.{rows, seenSetupVerdict}
-use Rattle.rules.proofs.{Rows.{Lent, lent-passes}, setup.Statement.statement}
+use Rattle.rules.proofs.{Rows.{LentPassed, lent-passes}, setup.Statement.statement}
 use Rattle.rules.proofs.setup.Tie as tie
 
 abbrev registers : tie.Start → Memory
@@ -20,14 +20,14 @@ start c = c .before .before .before .before .before .before .before
 accepted : (c : tie.After-enum-told) → said (start c) ≡ Verdict.Accepted
 accepted c = sym (c .before .before .lent-verdict .ensures) ∙ c .enum-told .given .1
 
-passed : (c : tie.After-enum-told) → Lent (start c .args .s) (start c .args .seen) (registers (start c))
+passed : (c : tie.After-enum-told) → LentPassed (start c .args .s) (start c .args .seen) (registers (start c))
 passed c = lent-passes (start c .args .s) (start c .args .seen) (registers (start c)) (accepted c)
 
 blocks-requires : tie.Need-blocks-requires
 blocks-requires c κs = passed (c .before) .limits
 
 clear-xs-requires : tie.Need-clear-xs-requires
-clear-xs-requires c κs = omega (arith, c .blocks2 .ensures, passed (c .before .before) .long .xs-long)
+clear-xs-requires c κs = omega (arith, c .blocks2 .ensures, passed (c .before .before) .long .xs)
 
 marks-needed-requires : tie.Need-marks-needed-requires
 marks-needed-requires c κs = passed (c .before .before .before .before .before .before) .limits
@@ -35,7 +35,7 @@ marks-needed-requires c κs = passed (c .before .before .before .before .before 
 clear-marks-requires : tie.Need-clear-marks-requires
 clear-marks-requires c κs =
     let ok = passed (c .before .before .before .before .before .before .before) in
-    omega (arith, c .marks-needed .ensures, ok .long .marks-long)
+    omega (arith, c .marks-needed .ensures, ok .long .marks)
 
 returns : tie.Need-returns
 returns c =
