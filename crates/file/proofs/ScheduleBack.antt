@@ -13,7 +13,7 @@ use Rattle.file.specs.File.{mostEvents, writeCases, eventNumber, reading
 use Rattle.file.specs.File.{countOf, codeAt, eventAt, codeBad, headerCases, opening, Read, reading, headerBytes}
 use Rattle.file.specs.File.{codeIn, eventBytes, eventsBytes, fileBytes, numberBad, writeVerdict, writtenBy}
 use Rattle.file.specs.File.{writing}
-use Rattle.file.specs.RoundTrip.{eventsRead, Tells, Holds, ScheduleComesBack}
+use Rattle.file.specs.RoundTrip.{eventsRead, Tells, Carries, ScheduleComesBack}
 use Rattle.file.proofs.{Numbers.{bytes-of-word, bytes-of-event}, Lengths.length-file}
 use Rattle.file.proofs.Headers.{Header, header-accepts, opening-passed, reading-given, reading-ends}
 use Rattle.file.proofs.{Refusing.{wrote, each-writing}, Writes.Writable, FileBack.{length-read, getD-read}}
@@ -116,7 +116,7 @@ module _ (s : Settings) (numbers : List ℕ) (good : Writable s numbers) where
             ∙ ap (λ (number : ℕ). number ∷ []) (number-back i l),
       )
 
-  schedule-back : Holds s numbers file
+  schedule-back : Carries s numbers file
   schedule-back = record {
     opens = opens-back;
     opening-tells = rw opens-back (refl, refl);
@@ -151,4 +151,4 @@ schedule-comes-back s numbers room count e =
     ap (λ (v : Verdict). take count (writtenBy v s numbers room .room)) (accepted .0)
     ∙ take-at (fileBytes s numbers) (drop (fileLength (length numbers)) room) count
     (length-file s numbers ∙ accepted .1) in
-    subst (Holds s numbers) (sym bytes) (schedule-back s numbers (verdict-writable s numbers room (accepted .0)))
+    subst (Carries s numbers) (sym bytes) (schedule-back s numbers (verdict-writable s numbers room (accepted .0)))

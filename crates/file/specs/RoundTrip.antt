@@ -32,7 +32,7 @@ FileComesBack =
     })
 
 -- a file that opens to these settings and as many events, and a reader of it gives these events one by one, then 13
-pub record Holds (s : Settings) (numbers file : List ℕ) : Type 0 where
+pub record Carries (s : Settings) (numbers file : List ℕ) : Type 0 where
   pub opens : opening file ≡ Opening.Opened s (length numbers)
   pub opening-tells : Tells (openingSaid (opening file)) (s .mode ∷ s .n ∷ s .k ∷ length numbers ∷ [])
   pub gives : (i : ℕ) → i < length numbers → Tells (readingSaid (reading file i .answer)) (getD numbers i 0 ∷ [])
@@ -40,9 +40,9 @@ pub record Holds (s : Settings) (numbers file : List ℕ) : Type 0 where
   pub events : eventsRead file 0 (length numbers) ≡ numbers
   pub ends : readingSaid (reading file (length numbers) .answer) .number ≡ 13
 
--- an accepted schedule: the bytes that the writer wrote, as many as it answers, hold its settings and its events
+-- an accepted schedule: the bytes that the writer wrote, as many as it answers, carry its settings and its events
 abbrev pub ScheduleComesBack : Type 0
 ScheduleComesBack =
     (s : Settings) (numbers room : List ℕ) (count : ℕ)
     → Tells (writingSaid (writing s numbers room .answer)) (count ∷ [])
-    → Holds s numbers (take count (writing s numbers room .room))
+    → Carries s numbers (take count (writing s numbers room .room))

@@ -3,7 +3,7 @@ pub mod Numbering
 pub mod Numbers
 pub mod Turning
 pub mod Arriving
-pub mod Seen
+pub mod AsGrid
 pub mod Steps
 pub mod Histories
 pub mod Names

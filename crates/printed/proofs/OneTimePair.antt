@@ -15,7 +15,7 @@ use Rattle.machine.specs.declared.{Kind.{Kind, the-variants.{Ask, Turn}}, Event
 use Rattle.machine.proofs.calls.Fresh.{setup-within, fresh-idle, fresh-none-out}
 use Rattle.machine.proofs.bridge.Turning.{scan-marked, scan-done, reads-own}
 use Rattle.machine.proofs.bridge.Arriving.{arrive-edge, arrive-block, leave-at-once}
-use Rattle.machine.proofs.bridge.Seen.{x-on-block, mark-on-block, x-put, mark-put}
+use Rattle.machine.proofs.bridge.AsGrid.{x-on-block, mark-on-block, x-put, mark-put}
 use Rattle.machine.proofs.bridge.Histories.{fresh-in-order, fresh-unmarked}
 use Rattle.machine.proofs.histories.Laps.{Took, turn-took, ask-took}
 use Rattle.grid.specs.Triangle.{half, placeNumber}

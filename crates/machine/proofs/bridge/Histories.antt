@@ -15,7 +15,7 @@ use Rattle.counting.proofs.{Bools.is-false, Searching.count-none, Counting.{cou
 use Rattle.machine.proofs.calls.Fresh.{fill-at, setup-within, setup-memory, fresh-idle, fresh-none-out}
 use Rattle.machine.proofs.calls.Fresh.{fresh-fit}
 use Rattle.machine.proofs.calls.{Outcomes.{Called, taken, refused, called}, Fitting.accept-fits}
-use Rattle.machine.proofs.bridge.Seen.{rulesOf, standOf, gridOf, all-unmarked}
+use Rattle.machine.proofs.bridge.AsGrid.{rulesOf, standOf, gridOf, all-unmarked}
 use Rattle.machine.proofs.bridge.Steps.{in-place, others-after, accepted-step}
 use Rattle.machine.proofs.refusals.{Passed.{Fit, May}, Refusing.ruled}
 use Rattle.grid.proofs.{Cover.{beyond, beyond-out}, Stands.{Rules, idle, Grid, Marks, HoldsAt, columnReach}}

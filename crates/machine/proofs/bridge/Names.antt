@@ -6,7 +6,7 @@ use native.Mathlib.Omega.{arith}
 use Rattle.machine.specs.{Memory.{Memory, stateOf}, promises.{Demands.{SetUp, memoryAfter}, Ranges.WithinLimits}}
 use Rattle.machine.specs.declared.{Settings.Settings, State.the-variants.Holding, Event.Event}
 use Rattle.machine.proofs.calls.Fresh.{setup-within}
-use Rattle.machine.proofs.bridge.{Seen.gridOf, Histories.{rules, all-in-place, InOrder, always-in-order}}
+use Rattle.machine.proofs.bridge.{AsGrid.gridOf, Histories.{rules, all-in-place, InOrder, always-in-order}}
 use Rattle.grid.proofs.{Stands.{InPlace, at, holding}, Invariant.{AllInPlace, one-holder}}
 
 -- ---- where a task holds

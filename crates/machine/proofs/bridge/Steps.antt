@@ -17,8 +17,8 @@ use Rattle.machine.specs.promises.Ranges.{WithinLimits}
 use Rattle.counting.proofs.Bools.{and-l, and-r}
 use Rattle.machine.proofs.refusals.{Limits.mode-most, Passed.Fit}
 use Rattle.machine.proofs.bridge.Turning.{scan-marked, scan-done, scan-on, reads-own, reads-other}
-use Rattle.machine.proofs.bridge.Seen.{wayOf, own-below, rulesOf, stageOf, standOf, xAt, markAt, gridOf}
-use Rattle.machine.proofs.bridge.Seen.{x-on-block, mark-on-block, x-put, mark-put}
+use Rattle.machine.proofs.bridge.AsGrid.{wayOf, own-below, rulesOf, stageOf, standOf, xAt, markAt, gridOf}
+use Rattle.machine.proofs.bridge.AsGrid.{x-on-block, mark-on-block, x-put, mark-put}
 use Rattle.machine.proofs.bridge.Arriving.{arrive-edge, arrive-block, leave-at-once, leave-clearing}
 use Rattle.machine.proofs.bridge.Arriving.{release-clears, release-nothing}
 use Rattle.grid.proofs.Stands.{Rules, mid, at, InPlace}

@@ -10,7 +10,7 @@ use Rattle.machine.specs.declared.{Settings.Settings, State.State, Recor
 use Rattle.machine.specs.declared.Access.{Access, the-variants.{NoAccess, XRead, XWritten, MarkRead, MarkWritten}}
 use Rattle.machine.specs.declared.{Kind.Kind, Event.Event}
 use Rattle.machine.specs.promises.OneAccess.{RegisterNeeded, accessOf, AcceptedIn, reads, SameRead, SameEnd}
-use Rattle.machine.specs.promises.OneAccess.{OnlyTheRegisterReadBears, WritesX, WritesMark, Stands, ChangesOnly}
+use Rattle.machine.specs.promises.OneAccess.{OnlyTheRegisterReadBears, WritesX, WritesMark, HasWritten, ChangesOnly}
 use Rattle.machine.specs.promises.OneAccess.{WrittenChanges, OnlyTheRegisterWrittenChanges}
 use Rattle.machine.proofs.refusals.{Refusing.ruled, Passing.{passed, by-the-rules}, Passed.{Passed, Fit}}
 use Rattle.machine.proofs.calls.OneAccess.{call-needed}
@@ -46,7 +46,7 @@ module _ (s : Settings) (m : Memory) where
   store-marks (MarkRead block place) = same-row _ (m .marks)
   store-marks (MarkWritten block place v) = set-row (m .marks) (markIndex s block place) v
 
-  stands : (a : Access) → Fit s m → RegisterNeeded s a → Stands s a (store s a m)
+  stands : (a : Access) → Fit s m → RegisterNeeded s a → HasWritten s a (store s a m)
   stands NoAccess fit h = tt
   stands (XRead block) fit h = tt
   stands (XWritten block v) fit h = getD-set-same (m .xs) block v 0 (let long = fit .long .xs in omega arith)
@@ -55,7 +55,7 @@ module _ (s : Settings) (m : Memory) where
       getD-set-same (m .marks) (markIndex s block place) v 0 (let long = fit .long .marks in omega arith)
 
   -- a record put in beside it leaves what was written
-  stands-with : (a : Access) (p : ℕ) (new : Record) (m′ : Memory) → Stands s a m′ → Stands s a (withRecord p new m′)
+  stands-with : (a : Access) (p : ℕ) (new : Record) (m′ : Memory) → HasWritten s a m′ → HasWritten s a (withRecord p new m′)
   stands-with NoAccess p new m′ h = h
   stands-with (XRead block) p new m′ h = h
   stands-with (XWritten block v) p new m′ h = h

@@ -15,7 +15,7 @@ use Rattle.machine.specs.declared.{Kind.{Kind, the-variants.{Ask, Turn, 
 use Rattle.machine.specs.promises.Ranges.{WithinLimits, StateWithin}
 use Rattle.machine.specs.promises.OneAccess.{MarkNeeded, touches, RegisterNeeded, EachOneAccess, accessOf}
 use Rattle.machine.proofs.refusals.{Ranges.scans-a-mark, Lines.{point-line, state-line}, Passed.Passed}
-use Rattle.machine.proofs.bridge.Seen.{own-below, block-below, mark-below}
+use Rattle.machine.proofs.bridge.AsGrid.{own-below, block-below, mark-below}
 
 -- ---- which register
 

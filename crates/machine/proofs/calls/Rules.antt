@@ -25,8 +25,8 @@ use Rattle.machine.specs.promises.Ranges.{WithinLimits}
 use Rattle.machine.proofs.refusals.{Limits.mode-most, Ranges.{seeks-on-block, seeks-at-point}}
 use Rattle.machine.proofs.refusals.{Passing.{passed, by-the-rules}, Passed.Passed}
 use Rattle.machine.proofs.bridge.Arriving.{arrive-edge, arrive-block, leave-at-once, leave-clearing}
-use Rattle.machine.proofs.bridge.Seen.{width-one-time, width-long-lived, own-one-time, own-long-lived}
-use Rattle.machine.proofs.bridge.Seen.{mark-below}
+use Rattle.machine.proofs.bridge.AsGrid.{width-one-time, width-long-lived, own-one-time, own-long-lived}
+use Rattle.machine.proofs.bridge.AsGrid.{mark-below}
 use Rattle.machine.proofs.bridge.Turning as turning
 
 -- ---- in either mode

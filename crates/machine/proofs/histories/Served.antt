@@ -17,7 +17,7 @@ use Rattle.machine.specs.declared.State.{State, the-variants.{Idle, Seek
 use Rattle.machine.specs.declared.{Kind.{Kind, the-variants.{Ask, Turn, Release}}, Event.Event}
 use Rattle.machine.proofs.calls.Fresh.{setup-within, fresh-idle}
 use Rattle.machine.proofs.calls.Outcomes.{Called, taken, refused, accepted-answer, called, may-accepted}
-use Rattle.machine.proofs.bridge.Seen.{rulesOf, standOf}
+use Rattle.machine.proofs.bridge.AsGrid.{rulesOf, standOf}
 use Rattle.machine.proofs.bridge.Steps.{arrives, in-place, caller-after, others-after, caller-moves}
 use Rattle.machine.proofs.bridge.Histories.{rules, all-in-place, InOrder, in-order-kept, fresh-in-order}
 use Rattle.machine.proofs.bridge.Histories.{always-in-order, run-append, history-append}

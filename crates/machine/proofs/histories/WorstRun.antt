@@ -17,7 +17,7 @@ use Rattle.machine.proofs.histories.Leads.{Leads, leads-more, leads-app
 use Rattle.machine.proofs.histories.Laps.{Took, turn-took, ask-took, Lap, lap-over, lap-more, laps}
 use Rattle.machine.proofs.{refusals.Limits.width-least, calls.Fresh.{setup-within, fresh-idle, fresh-none-out}}
 use Rattle.machine.proofs.bridge.{Turning.reads-other, Arriving.{leave-at-once, leave-clearing}}
-use Rattle.machine.proofs.bridge.Seen.{own-below, gridOf, x-on-block, mark-on-block, x-put, mark-put}
+use Rattle.machine.proofs.bridge.AsGrid.{own-below, gridOf, x-on-block, mark-on-block, x-put, mark-put}
 use Rattle.machine.proofs.bridge.Histories.{InOrder, fresh-in-order, fresh-unmarked, one-more-out}
 
 module _ (s : Settings) (fair : WithinLimits s) where

@@ -10,7 +10,7 @@ use Rattle.machine.specs.declared.{Settings.Settings, Event.Event}
 use Rattle.machine.proofs.histories.{Worst.{each, worstRow, worstRows, worst}, Served.bound-enough}
 use Rattle.machine.proofs.histories.Leads.{EndsWith, ends-alone, ends-append, ends-nil, writtenTurns}
 use Rattle.machine.proofs.histories.Leads.{written-append}
-use Rattle.machine.proofs.bridge.Seen.{rulesOf}
+use Rattle.machine.proofs.bridge.AsGrid.{rulesOf}
 use Rattle.grid.proofs.Spent.{cost}
 
 -- ---- task 0's turns

@@ -111,12 +111,12 @@ WritesMark s (MarkRead block place) i = ⊥
 WritesMark s (MarkWritten block place v) i = i ≡ markIndex s block place
 
 -- the register written has the value written
-abbrev pub Stands : Settings → Access → Memory → Type 0
-Stands s NoAccess m = Unit {0}
-Stands s (XRead block) m = Unit {0}
-Stands s (XWritten block v) m = getD (m .xs) block 0 ≡ v
-Stands s (MarkRead block place) m = Unit {0}
-Stands s (MarkWritten block place v) m = getD (m .marks) (markIndex s block place) 0 ≡ v
+abbrev pub HasWritten : Settings → Access → Memory → Type 0
+HasWritten s NoAccess m = Unit {0}
+HasWritten s (XRead block) m = Unit {0}
+HasWritten s (XWritten block v) m = getD (m .xs) block 0 ≡ v
+HasWritten s (MarkRead block place) m = Unit {0}
+HasWritten s (MarkWritten block place v) m = getD (m .marks) (markIndex s block place) 0 ≡ v
 
 -- a row is as long as before, and every element is as before but at these indices
 pub record ChangesOnly {A : Type 0} (indices : ℕ → Type 0) (row after : List A) : Type 0 where
@@ -128,7 +128,7 @@ pub record ChangesOnly {A : Type 0} (indices : ℕ → Type 0) (row after : List
 pub record WrittenChanges (s : Settings) (event : Event) (m after : Memory) : Type 0 where
   pub xs : ChangesOnly (WritesX (accessOf s event m)) (m .xs) (after .xs)
   pub marks : ChangesOnly (WritesMark s (accessOf s event m)) (m .marks) (after .marks)
-  pub written : Stands s (accessOf s event m) after
+  pub written : HasWritten s (accessOf s event m) after
   pub records : ChangesOnly (λ q. q ≡ event .task .0) (m .records) (after .records)
   pub own : stateOf after (event .task .0) ≡ nextState s (event .kind) (event .task .0) (stateOf m (event .task .0)) m
 
