@@ -1,11 +1,11 @@
 -- What it says that the tests of a call passed, in three parts: what is lent is long enough, what it holds is in range,
 -- and the task may.
-use mathlib.Core.{Path._≡_, Logic.{_⊎_, inl, inr}, Bool.false}
+use mathlib.Core.{Path._≡_, Logic.{_⊎_, inl, inr, ⊎-elim}, Bool.false}
 use native.Mathlib.{Omega.arith, Nat.le-refl}
 use Prim.Native.Nat.{ℕ, _≤_, _<_}
 use lib.{Dec.{T, ltb}, ListN.{length, getD}}
 use borrow.Author.Tests.{le-ltb}
-use Rattle.counting.proofs.{Tested.{Tested, below, either, passes}, Searching.none-bad}
+use Rattle.counting.proofs.{Tested.{Tested, below, either, passes, misses}, Searching.none-bad}
 use Rattle.machine.specs.{Places.blocks, Records.recordInRange}
 use Rattle.machine.specs.Memory.{Memory, marksNeeded, recordOf, stateOf, xInRange, markInRange, badRecord, badX}
 use Rattle.machine.specs.Memory.{badMark, outOf, viewOf}
@@ -64,11 +64,9 @@ none-short-long s count m e =
 
 none-short : (s : Settings) (m : Memory) → Fit s m → rowShort s (length (m .records)) (m .xs) (m .marks) ≡ false
 none-short s m fit =
-    rw (
-      le-ltb (length (m .records)) (s .n) (fit .long .records),
-      le-ltb (length (m .xs)) (blocks s) (fit .long .xs),
-      le-ltb (length (m .marks)) (marksNeeded s) (fit .long .marks),
-    )
+    let long = fit .long in
+    misses (short-tested s (length (m .records)) m)
+    (⊎-elim (λ l. omega (arith, long .records)) (⊎-elim (λ l. omega (arith, long .xs)) (λ l. omega (arith, long .marks))))
 
 none-below : (n first : ℕ) → first ≡ n → ltb first n ≡ false
 none-below n first e = rw e (le-ltb n n (le-refl n))
