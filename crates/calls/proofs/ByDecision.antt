@@ -9,9 +9,9 @@ use Rattle.machine.specs.{Calls.{Outcome, refuseOr, accept, call, cleared, setu
 use Rattle.machine.specs.declared.{Settings.Settings, Record.Record}
 use Rattle.machine.specs.declared.Access.{Access, the-variants.{NoAccess, XRead, XWritten, MarkRead, MarkWritten}}
 use Rattle.machine.specs.declared.{Kind.Kind, Verdict.Verdict, Answer.Answer}
+use Rattle.machine.specs.Refusals.{verdict, setupVerdict}
 use Rattle.counting.proofs.Searching.{none-bad-all}
-use Rattle.rules.specs.Decision.{Sees, seenVerdict, Decision, decisionBy, decision, seenSetupVerdict, Preparation}
-use Rattle.rules.specs.Decision.{preparationBy, preparation}
+use Rattle.rules.specs.Decision.{Sees, Decision, decisionBy, decision, Preparation, preparationBy, preparation}
 use Rattle.rules.proofs.Rows.{lent-passes}
 use Rattle.rows.specs.Rows as rows
 
@@ -49,7 +49,7 @@ decidedOutcome records p d = leaves (d .answer) (beside (set records p (d .own))
 module _ (s : Settings) (kind : Kind) (p : ℕ) (records : List Record) (m : Memory) where
   pub by-decision : decidedOutcome records p (decision s kind p (viewOf s records p) m)
       ≡ call s (eventOf kind p) (beside records m)
-  by-decision = sym (go (seenVerdict s kind p (viewOf s records p) m))
+  by-decision = sym (go (verdict s kind p (viewOf s records p) m))
     where
       own : Record
       own = getD records p idle
@@ -75,9 +75,9 @@ preparedOutcome records d = leaves (d .answer) (beside (rows.cleared (d .fresh) 
 
 pub by-preparation : (s : Settings) (records : List Record) (m : Memory)
     → preparedOutcome records (preparation s (viewOf s records 0) m) ≡ setup s (beside records m)
-by-preparation s records m = go (seenSetupVerdict s (viewOf s records 0) m) refl
+by-preparation s records m = go (setupVerdict s (viewOf s records 0) m) refl
   where
-    go : (v : Verdict) → seenSetupVerdict s (viewOf s records 0) m ≡ v
+    go : (v : Verdict) → setupVerdict s (viewOf s records 0) m ≡ v
         → preparedOutcome records (preparationBy v s m)
         ≡ refuseOr v (beside records m) (leaves Answer.Done (cleared s (beside records m)))
     go (Verdict.Refused why) e = refl

@@ -43,8 +43,7 @@ header-accepts file good =
       good .letters,
       eq-eqb _ _ (good .version),
       good .limits,
-      le-ltb _ _
-          (good .few),
+      le-ltb _ _ (good .few),
       eq-eqb _ _ (good .whole),
     )
 

@@ -65,8 +65,7 @@ refuseOr (Verdict.Refused why) m outcome = record { answer = Answer.Refused why;
 
 -- what the tests of a call say of a memory
 abbrev pub verdictOf : Settings → Event → Memory → Verdict
-verdictOf s event m =
-    verdict s (event .kind) (event .task .0) (viewOf s (m .records) (event .task .0)) (m .xs) (m .marks)
+verdictOf s event m = verdict s (event .kind) (event .task .0) (viewOf s (m .records) (event .task .0)) m
 
 -- ask, turn or release of one task
 abbrev pub call : Settings → Event → Memory → Outcome
@@ -83,5 +82,5 @@ cleared s m = record {
 
 abbrev pub setup : Settings → Memory → Outcome
 setup s m =
-    refuseOr (setupVerdict s (viewOf s (m .records) 0) (m .xs) (m .marks)) m
+    refuseOr (setupVerdict s (viewOf s (m .records) 0) m) m
     (record { answer = Answer.Done; memory = cleared s m })

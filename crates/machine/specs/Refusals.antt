@@ -3,7 +3,7 @@ use mathlib.Core.{Bool.{Bool, false, not, _||_, cond}, List.{List, [], _∷_}}
 use Prim.Native.Nat.{ℕ}
 use lib.{Dec.{eqb, leb, ltb}, ListN.length}
 use Rattle.machine.specs.{Settings.permitted, Places.blocks, Records.{isIdle, isSeeking, isHolding}}
-use Rattle.machine.specs.Memory.{marksNeeded, badX, badMark}
+use Rattle.machine.specs.Memory.{Memory, marksNeeded, badX, badMark}
 use Rattle.machine.specs.declared.{Settings.Settings, State.State, Kind.{Kind, the-variants.{Ask, Turn, Release}}}
 use Rattle.machine.specs.declared.Row.the-variants.{Records, Xs, Marks}
 use Rattle.machine.specs.declared.Refusal.{Refusal}
@@ -29,16 +29,17 @@ abbrev pub outsideLimits : Settings → Bool
 outsideLimits s = not (permitted s)
 
 -- 2: a lent row is shorter than needed
-abbrev pub rowShort : Settings → ℕ → List ℕ → List ℕ → Bool
-rowShort s records xs marks = ltb records (s .n) || (ltb (length xs) (blocks s) || ltb (length marks) (marksNeeded s))
+abbrev pub rowShort : Settings → ℕ → Memory → Bool
+rowShort s records m =
+    ltb records (s .n) || (ltb (length (m .xs)) (blocks s) || ltb (length (m .marks)) (marksNeeded s))
 
 -- 3: a needed value is out of range: records first, then X, then marks, each with the index of the first bad value;
 -- `rest` follows
-abbrev pub rangeCases : Settings → View → List ℕ → List ℕ → List Case → List Case
-rangeCases s seen xs marks rest =
+abbrev pub rangeCases : Settings → View → Memory → List Case → List Case
+rangeCases s seen m rest =
     when (ltb (seen .bad) (s .n)) (OutOfRange Records (seen .bad))
-    ∷ when (ltb (badX s xs) (blocks s)) (OutOfRange Xs (badX s xs))
-    ∷ when (ltb (badMark s marks) (marksNeeded s)) (OutOfRange Marks (badMark s marks))
+    ∷ when (ltb (badX s (m .xs)) (blocks s)) (OutOfRange Xs (badX s (m .xs)))
+    ∷ when (ltb (badMark s (m .marks)) (marksNeeded s)) (OutOfRange Marks (badMark s (m .marks)))
     ∷ rest
 
 -- 4: identifier ≥ N
@@ -64,10 +65,10 @@ tooManyOut s Turn out = false
 tooManyOut s Release out = false
 
 -- the cases in their order: what is lent, 1 and 2; what it holds, 3, above; the task, 4 to 7
-abbrev pub lentCases : Settings → View → List ℕ → List ℕ → List Case → List Case
-lentCases s seen xs marks rest =
+abbrev pub lentCases : Settings → View → Memory → List Case → List Case
+lentCases s seen m rest =
     when (outsideLimits s) Limits
-    ∷ when (rowShort s (seen .length) xs marks) ShortRow
+    ∷ when (rowShort s (seen .length) m) ShortRow
     ∷ rest
 
 abbrev pub taskCases : Settings → Kind → ℕ → View → List Case
@@ -79,10 +80,9 @@ taskCases s kind p seen =
     ∷ []
 
 -- setup tests 1, 2
-abbrev pub setupVerdict : Settings → View → List ℕ → List ℕ → Verdict
-setupVerdict s seen xs marks = first (lentCases s seen xs marks [])
+abbrev pub setupVerdict : Settings → View → Memory → Verdict
+setupVerdict s seen m = first (lentCases s seen m [])
 
 -- the other calls 1 to 7 ascending
-abbrev pub verdict : Settings → Kind → ℕ → View → List ℕ → List ℕ → Verdict
-verdict s kind p seen xs marks =
-    first (lentCases s seen xs marks (rangeCases s seen xs marks (taskCases s kind p seen)))
+abbrev pub verdict : Settings → Kind → ℕ → View → Memory → Verdict
+verdict s kind p seen m = first (lentCases s seen m (rangeCases s seen m (taskCases s kind p seen)))

@@ -71,8 +71,7 @@ last-identifier : LastIdentifier
 last-identifier s lent ok all = (
   rw (
     fit-verdict s (setup s lent .memory) (ask 256) (setup-within s lent ok) (fresh-fit s lent ok),
-    le-leb (s .n) 256
-        (omega arith),
+    le-leb (s .n) 256 (omega arith),
   ),
   rw (fresh-ask s lent ok 255 (omega arith)) (standing-accepted s (arrive s 0 0)),
 )

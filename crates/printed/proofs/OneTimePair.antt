@@ -91,7 +91,8 @@ module _ (s : Settings) (lent : Memory) (ok : SetUp s lent) (one-time : s .mode 
   own-first = rw one-time
 
   asks : Took s fair Ask p Idle m₀
-  asks = ask-took p m₀ (fresh-in-order s lent ok) lp (omega (arith, fresh-none-out s lent ok)) (fresh-idle s lent ok p lp)
+  asks = ask-took p m₀ (fresh-in-order s lent ok) lp (omega (arith, fresh-none-out s lent ok))
+      (fresh-idle s lent ok p lp)
 
   writes : Took s fair Turn p start m₁
   writes = turn-took p 0 0 WriteX m₁ (asks .fine) lp (asks .its ∙ at-start)

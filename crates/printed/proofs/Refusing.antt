@@ -27,8 +27,7 @@ module _ (file room : List ℕ) where
           ∙ is in
           let count : sixteen file 9 ≡ n = cc in (
             λ short. inl (opens, omega arith),
-            ⊎-elim (λ short. let l = short .1 in omega arith)
-                (λ closed. absurd (closed .0 opens)),
+            ⊎-elim (λ short. let l = short .1 in omega arith) (λ closed. absurd (closed .0 opens)),
           )
       go (Opening.Refused why) is =
           let low = refusal-says why .0 in

@@ -4,12 +4,13 @@ use Prim.Native.Nat.{ℕ, _<_}
 use lib.Dec.{T}
 use borrow.Author.Tests.{leb-false, not-false}
 use Rattle.machine.specs.{Settings.permitted, Records.recordInRange, Memory.Memory, Turn.{access, next}}
-use Rattle.machine.specs.{Refusals.{wrongMoment, lentCases, rangeCases, taskCases}, promises.OneAccess.RegisterNeeded}
+use Rattle.machine.specs.Refusals.{wrongMoment, lentCases, rangeCases, taskCases, verdict}
+use Rattle.machine.specs.promises.OneAccess.{RegisterNeeded}
 use Rattle.machine.specs.declared.{Settings.Settings, View.View, Record.Record, Access.Access, Kind.Kind}
 use Rattle.machine.specs.declared.Verdict.{Verdict}
 use Rattle.machine.proofs.refusals.{Deciding.no-case, Limits.limits, Passed.{Long, none-short-long}}
 use Rattle.machine.proofs.calls.OneAccess.{access-needed}
-use Rattle.rules.specs.Decision.{Sees, seenVerdict, Touched, touched, touching}
+use Rattle.rules.specs.Decision.{Sees, Touched, touched, touching}
 use Rattle.machine.proofs.calls.Fitting as fitting
 
 pub record SeenPassed (s : Settings) (kind : Kind) (p : ℕ) (seen : View) (m : Memory) : Type 0 where
@@ -20,10 +21,10 @@ pub record SeenPassed (s : Settings) (kind : Kind) (p : ℕ) (seen : View) (m : 
   pub own-in-range : T (recordInRange s (seen .own))
 
 pub seen-passed : (s : Settings) (kind : Kind) (p : ℕ) (seen : View) (m : Memory) → Sees s p seen
-    → seenVerdict s kind p seen m ≡ Verdict.Accepted → SeenPassed s kind p seen m
+    → verdict s kind p seen m ≡ Verdict.Accepted → SeenPassed s kind p seen m
 seen-passed s kind p seen m sees e =
     let (inside, (short, (records, (x-numbers, (mark-row, (unknown, (lived, (moment, last)))))))) =
-    no-case (lentCases s seen (m .xs) (m .marks) (rangeCases s seen (m .xs) (m .marks) (taskCases s kind p seen))) e in
+    no-case (lentCases s seen m (rangeCases s seen m (taskCases s kind p seen))) e in
     let known = leb-false (s .n) p unknown in
     record {
       limits = subst T (sym (not-false (permitted s) inside)) tt;
@@ -33,7 +34,8 @@ seen-passed s kind p seen m sees e =
       own-in-range = sees records known;
     }
 
-module _ {s : Settings} {kind : Kind} {p : ℕ} {seen : View} {m : Memory} (ok : SeenPassed s kind p seen m) (touch : Access)
+module _ {s : Settings} {kind : Kind} {p : ℕ} {seen : View} {m : Memory} (ok : SeenPassed s kind p seen m)
+    (touch : Access)
     (is : touch ≡ access s kind p (seen .own .state)) where
   -- the access is of a register that is needed
   pub touch-needed : RegisterNeeded s touch

@@ -5,15 +5,16 @@ use Prim.Native.Nat.{ℕ}
 use Rattle.machine.specs.{Memory.Memory, Turn.{access, next}, Calls.answerOf}
 use Rattle.machine.specs.declared.{Settings.Settings, Record.Record, View.View, Kind.Kind, Access.Access}
 use Rattle.machine.specs.declared.{Refusal.Refusal, Verdict.Verdict, Answer.Answer}
-use Rattle.rules.specs.Decision.{seenVerdict, Touched, touched, touching, decided, decision}
+use Rattle.machine.specs.Refusals.{verdict}
+use Rattle.rules.specs.Decision.{Touched, touched, touching, decided, decision}
 
 module _ (s : Settings) (kind : Kind) (p : ℕ) (seen : View) (m : Memory) where
-  pub refused-decided : (why : Refusal) → seenVerdict s kind p seen m ≡ Verdict.Refused why
+  pub refused-decided : (why : Refusal) → verdict s kind p seen m ≡ Verdict.Refused why
       → decided (record { answer = Answer.Refused why; own = seen .own }) m ≡ decision s kind p seen m
   refused-decided why refused = rw refused
 
   pub accepted-decided : (touch : Access) (left : Memory) (v : ℕ) (own : Record) (answer : Answer)
-      → seenVerdict s kind p seen m ≡ Verdict.Accepted
+      → verdict s kind p seen m ≡ Verdict.Accepted
       → touch ≡ access s kind p (seen .own .state)
       → touched v left ≡ touching s touch m
       → own ≡ record { state = next s kind p (seen .own .state) v }

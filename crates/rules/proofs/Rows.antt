@@ -4,10 +4,9 @@ use Prim.Native.Nat.{ℕ}
 use native.Mathlib.Omega.{arith}
 use lib.Dec.{T, ltb}
 use Rattle.machine.specs.{Settings.permitted, Places.blocks, Memory.{Memory, marksNeeded, badX, badMark}}
-use Rattle.machine.specs.Refusals.{first, outsideLimits, rowShort, rangeCases, taskCases}
+use Rattle.machine.specs.Refusals.{first, outsideLimits, rowShort, rangeCases, taskCases, verdict, setupVerdict}
 use Rattle.machine.specs.declared.{Settings.Settings, View.View, Kind.Kind, Refusal.Refusal, Verdict.Verdict}
 use Rattle.machine.proofs.refusals.Passed.{Long, none-short-long}
-use Rattle.rules.specs.Decision.{seenVerdict, seenSetupVerdict}
 
 lent-of : (ok short : Bool) (why other : Refusal)
     → cond (not ok) (Verdict.Refused why) (cond short (Verdict.Refused other) Verdict.Accepted) ≡ Verdict.Accepted
@@ -19,14 +18,14 @@ lent-of true false why other e = (tt, refl)
 -- the two tests of what is lent pass
 pub record LentPassed (s : Settings) (seen : View) (m : Memory) : Type 0 where
   pub limits : T (permitted s)
-  pub none-is-short : rowShort s (seen .length) (m .xs) (m .marks) ≡ false
+  pub none-is-short : rowShort s (seen .length) m ≡ false
   pub long : Long s (seen .length) m
 
-pub lent-passes : (s : Settings) (seen : View) (m : Memory) → seenSetupVerdict s seen m ≡ Verdict.Accepted
+pub lent-passes : (s : Settings) (seen : View) (m : Memory) → setupVerdict s seen m ≡ Verdict.Accepted
     → LentPassed s seen m
 lent-passes s seen m e =
     let (limits, short) =
-    lent-of (permitted s) (rowShort s (seen .length) (m .xs) (m .marks)) Refusal.Limits Refusal.ShortRow e in
+    lent-of (permitted s) (rowShort s (seen .length) m) Refusal.Limits Refusal.ShortRow e in
     record { limits = limits; none-is-short = short; long = none-short-long s (seen .length) m short }
 
 -- ---- the verdict by its three parts
@@ -50,12 +49,12 @@ three-then true b c x y z later = refl
 three-then false b c x y z later = two-then b c y z later
 
 pub verdict-parts : (s : Settings) (kind : Kind) (p : ℕ) (seen : View) (m : Memory)
-    → seenVerdict s kind p seen m
-    ≡ then (seenSetupVerdict s seen m)
-    (then (first (rangeCases s seen (m .xs) (m .marks) [])) (first (taskCases s kind p seen)))
+    → verdict s kind p seen m
+    ≡ then (setupVerdict s seen m)
+    (then (first (rangeCases s seen m [])) (first (taskCases s kind p seen)))
 verdict-parts s kind p seen m =
-    two-then (outsideLimits s) (rowShort s (seen .length) (m .xs) (m .marks)) Refusal.Limits Refusal.ShortRow
-    (first (rangeCases s seen (m .xs) (m .marks) (taskCases s kind p seen)))
-    ∙ ap (then (seenSetupVerdict s seen m))
+    two-then (outsideLimits s) (rowShort s (seen .length) m) Refusal.Limits Refusal.ShortRow
+    (first (rangeCases s seen m (taskCases s kind p seen)))
+    ∙ ap (then (setupVerdict s seen m))
     (three-then (ltb (seen .bad) (s .n)) (ltb (badX s (m .xs)) (blocks s)) (ltb (badMark s (m .marks)) (marksNeeded s))
     _ _ _ (first (taskCases s kind p seen)))

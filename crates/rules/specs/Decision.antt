@@ -17,13 +17,6 @@ rows xs marks = record { records = []; xs = xs; marks = marks }
 abbrev pub Sees : Settings → ℕ → View → Type 0
 Sees s p seen = ltb (seen .bad) (s .n) ≡ false → p < s .n → T (recordInRange s (seen .own))
 
--- what the tests say of a view and the registers
-abbrev pub seenVerdict : Settings → Kind → ℕ → View → Memory → Verdict
-seenVerdict s kind p seen m = verdict s kind p seen (m .xs) (m .marks)
-
-abbrev pub seenSetupVerdict : Settings → View → Memory → Verdict
-seenSetupVerdict s seen m = setupVerdict s seen (m .xs) (m .marks)
-
 -- ---- one access
 
 -- the value read, and the registers afterwards
@@ -54,7 +47,7 @@ decisionBy Verdict.Accepted s kind p seen m = record {
 decisionBy (Verdict.Refused why) s kind p seen m = record { answer = Answer.Refused why; own = seen .own; memory = m }
 
 abbrev pub decision : Settings → Kind → ℕ → View → Memory → Decision
-decision s kind p seen m = decisionBy (seenVerdict s kind p seen m) s kind p seen m
+decision s kind p seen m = decisionBy (verdict s kind p seen m) s kind p seen m
 
 -- what the code returns and leaves, as a decision
 abbrev pub decided : Decided → Memory → Decision
@@ -77,7 +70,7 @@ preparationBy Verdict.Accepted s m = record { answer = Answer.Done; fresh = s .n
 preparationBy (Verdict.Refused why) s m = record { answer = Answer.Refused why; fresh = 0; memory = m }
 
 abbrev pub preparation : Settings → View → Memory → Preparation
-preparation s seen m = preparationBy (seenSetupVerdict s seen m) s m
+preparation s seen m = preparationBy (setupVerdict s seen m) s m
 
 abbrev pub prepared : Prepared → Memory → Preparation
 prepared result m = record { answer = result .answer; fresh = result .fresh; memory = m }

@@ -21,7 +21,7 @@ ghost use lib.ListN.{length, getD};
 ghost use Rattle.machine.specs.Settings.{permitted};
 ghost use Rattle.machine.specs.Places.{blocks};
 ghost use Rattle.machine.specs.Memory.{marksNeeded, badX, badMark, fill};
-ghost use Rattle.machine.specs.Refusals.{first, rowShort, lentCases, rangeCases, taskCases, oneTimeRelease, wrongMoment, tooManyOut, verdict};
+ghost use Rattle.machine.specs.Refusals.{first, rowShort, setupVerdict, rangeCases, taskCases, oneTimeRelease, wrongMoment, tooManyOut, verdict};
 ghost use Rattle.machine.specs.promises.OneAccess.{RegisterNeeded};
 ghost use Rattle.rules.specs.Decision.{rows, Sees, touched, touching, decided, decision, prepared, preparation};
 
@@ -107,7 +107,7 @@ fn bad_mark(s: Settings, marks: &[u8]) -> usize
 // Whether a lent row is shorter than needed.
 fn row_short(s: Settings, records: usize, xs: &[u32], marks: &[u8]) -> bool
     requires { ⌜ T (permitted s) ⌝ }
-    ensures { λ short. ⌜ short ≡ rowShort s records (now (xs .entry)) (now (marks .entry)) ⌝ }
+    ensures { λ short. ⌜ short ≡ rowShort s records (rows (now (xs .entry)) (now (marks .entry))) ⌝ }
 {
     if records < s.n as usize {
         return true;
@@ -153,7 +153,7 @@ fn too_many_out(s: Settings, kind: Kind, out: usize) -> bool
 
 // What the tests of what is lent say: 1, then 2.
 fn lent_verdict(s: Settings, seen: View, xs: &[u32], marks: &[u8]) -> Verdict
-    ensures { λ v. ⌜ v ≡ first (lentCases s seen (now (xs .entry)) (now (marks .entry)) []) ⌝ }
+    ensures { λ v. ⌜ v ≡ setupVerdict s seen (rows (now (xs .entry)) (now (marks .entry))) ⌝ }
 {
     if !places::permitted(s) {
         return Verdict::Refused(Refusal::Limits);
@@ -166,8 +166,8 @@ fn lent_verdict(s: Settings, seen: View, xs: &[u32], marks: &[u8]) -> Verdict
 
 // What 3 says: records first, then X, then marks.
 fn range_verdict(s: Settings, seen: View, xs: &[u32], marks: &[u8]) -> Verdict
-    requires { ⌜ T (permitted s) × (rowShort s (seen .length) (now xs) (now marks) ≡ false) ⌝ }
-    ensures { λ v. ⌜ v ≡ first (rangeCases s seen (now (xs .entry)) (now (marks .entry)) []) ⌝ }
+    requires { ⌜ T (permitted s) × (rowShort s (seen .length) (rows (now xs) (now marks)) ≡ false) ⌝ }
+    ensures { λ v. ⌜ v ≡ first (rangeCases s seen (rows (now (xs .entry)) (now (marks .entry))) []) ⌝ }
 {
     let bad = seen.bad;
     if bad < s.n as usize {
@@ -215,7 +215,7 @@ fn task_verdict(s: Settings, kind: Kind, seen: View, task: TaskId) -> Verdict
 
 // What the tests of ask, turn and release say: 1 to 7 ascending.
 fn verdict(s: Settings, kind: Kind, seen: View, xs: &[u32], marks: &[u8], task: TaskId) -> Verdict
-    ensures { λ v. ⌜ v ≡ verdict s kind (task .0) seen (now (xs .entry)) (now (marks .entry)) ⌝ }
+    ensures { λ v. ⌜ v ≡ verdict s kind (task .0) seen (rows (now (xs .entry)) (now (marks .entry))) ⌝ }
 {
     match lent_verdict(s, seen, xs, marks) {
         Verdict::Refused(why) => Verdict::Refused(why),

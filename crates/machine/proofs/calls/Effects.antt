@@ -10,8 +10,8 @@ use Rattle.machine.specs.declared.{Settings.Settings, State.State, Recor
 use Rattle.machine.specs.declared.Access.{Access, the-variants.{NoAccess, XRead, XWritten, MarkRead, MarkWritten}}
 use Rattle.machine.specs.declared.{Kind.Kind, Event.Event}
 use Rattle.machine.specs.promises.OneAccess.{RegisterNeeded, accessOf, AcceptedIn, reads, SameRead, SameEnd}
-use Rattle.machine.specs.promises.OneAccess.{OnlyTheRegisterReadBears, WritesX, WritesMark, HasWritten, ChangesOnly}
-use Rattle.machine.specs.promises.OneAccess.{WrittenChanges, OnlyTheRegisterWrittenChanges}
+use Rattle.machine.specs.promises.OneAccess.{OnlyTheRegisterReadBears, WritesX, WritesMark, HasWritten}
+use Rattle.machine.specs.promises.OneAccess.{ChangesOnly, WrittenChanges, OnlyTheRegisterWrittenChanges}
 use Rattle.machine.proofs.refusals.{Refusing.ruled, Passing.{passed, by-the-rules}, Passed.{Passed, Fit}}
 use Rattle.machine.proofs.calls.OneAccess.{call-needed}
 
@@ -55,7 +55,8 @@ module _ (s : Settings) (m : Memory) where
       getD-set-same (m .marks) (markIndex s block place) v 0 (let long = fit .long .marks in omega arith)
 
   -- a record put in beside it leaves what was written
-  stands-with : (a : Access) (p : ℕ) (new : Record) (m′ : Memory) → HasWritten s a m′ → HasWritten s a (withRecord p new m′)
+  stands-with : (a : Access) (p : ℕ) (new : Record) (m′ : Memory) → HasWritten s a m′
+      → HasWritten s a (withRecord p new m′)
   stands-with NoAccess p new m′ h = h
   stands-with (XRead block) p new m′ h = h
   stands-with (XWritten block v) p new m′ h = h

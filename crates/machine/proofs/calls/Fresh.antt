@@ -34,8 +34,8 @@ two-tests false true m o e = absurd (let z : _≡_ {A = ℕ} 0 1 = cc in omega a
 two-tests false false m o e = (refl, refl)
 
 module _ (s : Settings) (lent : Memory) (ok : SetUp s lent) where
-  both : (outsideLimits s ≡ false) × (rowShort s (length (lent .records)) (lent .xs) (lent .marks) ≡ false)
-  both = two-tests (outsideLimits s) (rowShort s (length (lent .records)) (lent .xs) (lent .marks)) lent
+  both : (outsideLimits s ≡ false) × (rowShort s (length (lent .records)) lent ≡ false)
+  both = two-tests (outsideLimits s) (rowShort s (length (lent .records)) lent) lent
       (record { answer = Answer.Done; memory = cleared s lent }) ok
 
   pub setup-within : WithinLimits s

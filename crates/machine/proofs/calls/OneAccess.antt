@@ -41,8 +41,7 @@ one-access s l p low = record {
   turn = turn-one s l p low;
   release-block = λ r c b. (
     rw (le-leb (r + c + 2) (s .k) b),
-    needed-mark s l p low r c (own s p) b
-        (own-below s l p low),
+    needed-mark s l p low r c (own s p) b (own-below s l p low),
   );
   release-edge = λ r c e. rw (lt-leb (r + c + 2) (s .k) (let z : s .k < r + c + 2 = omega arith in z));
 }

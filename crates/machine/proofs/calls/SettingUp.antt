@@ -12,8 +12,7 @@ use Rattle.machine.proofs.refusals.Refusing.{accepted-zero, started, se
 module _ (s : Settings) (m : Memory) where
   -- what an accepted setup answers
   accepted-done : setupSays s m .number ≡ 0 → setup s m .answer ≡ Answer.Done
-  accepted-done e = go (setupVerdict s (viewOf s (m .records) 0) (m .xs) (m .marks))
-      (accepted-zero (setup s m .answer) .1 e)
+  accepted-done e = go (setupVerdict s (viewOf s (m .records) 0) m) (accepted-zero (setup s m .answer) .1 e)
     where
       go : (verdict : Verdict) → T (isAccepted (refuseOr verdict m (started s m) .answer))
           → refuseOr verdict m (started s m) .answer ≡ Answer.Done

@@ -60,7 +60,7 @@ call-surplus s event m = go (verdictOf s event m) refl
     go (Verdict.Refused why) e = refl
 
 setup-surplus : (s : Settings) (m : Memory) → surplus s (setup s m .memory) ≡ surplus s m
-setup-surplus s m = go (setupVerdict s (viewOf s (m .records) 0) (m .xs) (m .marks))
+setup-surplus s m = go (setupVerdict s (viewOf s (m .records) 0) m)
   where
     go : (verdict : Verdict) → surplus s (refuseOr verdict m (started s m) .memory) ≡ surplus s m
     go Verdict.Accepted = cleared-surplus s m
@@ -80,8 +80,7 @@ short-take n l = rw (length-take n l) (go (decLe n (length l)))
     go (no short) = lt-ltb (min n (length l)) n (omega arith) ∙ sym (lt-ltb (length l) n (omega arith))
 
 module _ (s : Settings) (m : Memory) where
-  same-short : rowShort s (length (needed s m .records)) (needed s m .xs) (needed s m .marks) ≡ rowShort s
-      (length (m .records)) (m .xs) (m .marks)
+  same-short : rowShort s (length (needed s m .records)) (needed s m) ≡ rowShort s (length (m .records)) m
   same-short = rw (short-take (s .n) (m .records), short-take (blocks s) (m .xs), short-take (marksNeeded s) (m .marks))
 
   same-bad-record : badRecord s (needed s m .records) ≡ badRecord s (m .records)
@@ -107,8 +106,7 @@ module _ (s : Settings) (m : Memory) where
         same-bad-record,
         same-bad-x,
         same-bad-mark,
-        le-leb (s .n)
-            (event .task .0) beyond,
+        le-leb (s .n) (event .task .0) beyond,
       )
       go (no within) = rw (
         same-short,
@@ -116,8 +114,7 @@ module _ (s : Settings) (m : Memory) where
         same-bad-x,
         same-bad-mark,
         same-out,
-        getD-take (s .n)
-            (m .records) (event .task .0) idle (let low : event .task .0 < s .n = omega arith in low),
+        getD-take (s .n) (m .records) (event .task .0) idle (let low : event .task .0 < s .n = omega arith in low),
       )
 
   needed-store : (a : Access) → RegisterNeeded s a → store s a (needed s m) ≡ needed s (store s a m)
@@ -180,7 +177,7 @@ call-cut s event m = rw (same-verdict s m event) (go (verdictOf s event m) refl)
     go (Verdict.Refused why) e = refl
 
 setup-cut : (s : Settings) (m : Memory) → setup s (needed s m) ≡ cut s (setup s m)
-setup-cut s m = rw (same-short s m) (go (setupVerdict s (viewOf s (m .records) 0) (m .xs) (m .marks)))
+setup-cut s m = rw (same-short s m) (go (setupVerdict s (viewOf s (m .records) 0) m))
   where
     filled : cleared s (needed s m) ≡ needed s (cleared s m)
     filled = same-rows (needed-fill (s .n) idle (m .records)) (needed-fill (blocks s) 0 (m .xs))

@@ -104,8 +104,7 @@ module _ (s : Settings) (fair : WithinLimits s) (p : ℕ) (m : Memory) (sound : 
           let d : p ≡ event .task .0 → ⊥ = λ f. eqb-false (event .task .0) p e (sym f) in
           rw (
             accepted-answer s event m,
-            others-after s fair m sound (event .task .0) (o .known) (event .kind)
-                (stateOf m (event .task .0)) p d,
+            others-after s fair m sound (event .task .0) (o .known) (event .kind) (stateOf m (event .task .0)) p d,
           ) h
 
 last-heard : (s : Settings) (fair : WithinLimits s) (p : ℕ) (events : List Event) (m : Memory) (before : Answer)

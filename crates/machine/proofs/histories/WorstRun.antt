@@ -111,8 +111,7 @@ module _ (s : Settings) (fair : WithinLimits s) where
           let clears = turn-took p r 0 (Clear Down) m₂ (reads .fine) l
           (left ∙ sym (leave-clearing s r 0 Down (λ z. omega arith))) in
           let lost₃ : Lost r n m₃ = (
-            below-unmarked r p 0 (Clear Down) m₂ (reads .fine) b l refl
-                (lost₂ .0),
+            below-unmarked r p 0 (Clear Down) m₂ (reads .fine) b l refl (lost₂ .0),
             lost₂ .1,
           ) in
           subst Whole (sym e) (lap-more marks

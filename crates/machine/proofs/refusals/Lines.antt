@@ -34,8 +34,7 @@ module _ (s : Settings) (l : WithinLimits s) where
       go : (s .mode ≡ 0) ⊎ (s .mode ≡ 1) → (n < marksNeeded s) ↔ NeedsMore s Marks n
       go (inl once) = rw once (
         λ h. inl (refl, omega arith),
-        ⊎-elim (λ h. let z = h .1 in omega arith)
-            (λ h. let e = h .0 in absurd (omega arith)),
+        ⊎-elim (λ h. let z = h .1 in omega arith) (λ h. let e = h .0 in absurd (omega arith)),
       )
       go (inr long) = rw long (λ h. inr (refl, h), ⊎-elim (λ h. let e = h .0 in absurd (omega arith)) (λ h. h .1))
 
@@ -48,7 +47,7 @@ module _ (s : Settings) (l : WithinLimits s) where
   short : (row : Row) (n : ℕ) → Tested (ltb n (neededOf s row)) (NeedsMore s row n)
   short row n = meaning (below n (neededOf s row)) (needs-line row n)
 
-  pub short-line : (m : Memory) → Tested (rowShort s (length (m .records)) (m .xs) (m .marks)) (SomeRowShort s m)
+  pub short-line : (m : Memory) → Tested (rowShort s (length (m .records)) m) (SomeRowShort s m)
   short-line m = either (short Records (length (m .records)))
       (either (short Xs (length (m .xs))) (short Marks (length (m .marks))))
 

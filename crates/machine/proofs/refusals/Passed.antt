@@ -46,15 +46,15 @@ pub record Passed (s : Settings) (event : Event) (m : Memory) : Type 0 where
 -- ---- 2: no row is short
 
 short-tested : (s : Settings) (count : ℕ) (m : Memory)
-    → Tested (rowShort s count (m .xs) (m .marks))
+    → Tested (rowShort s count m)
     ((count < s .n) ⊎ ((length (m .xs) < blocks s) ⊎ (length (m .marks) < marksNeeded s)))
 short-tested s count m =
     either (below count (s .n)) (either (below (length (m .xs)) (blocks s)) (below (length (m .marks)) (marksNeeded s)))
 
-pub none-short-long : (s : Settings) (count : ℕ) (m : Memory) → rowShort s count (m .xs) (m .marks) ≡ false
+pub none-short-long : (s : Settings) (count : ℕ) (m : Memory) → rowShort s count m ≡ false
     → Long s count m
 none-short-long s count m e =
-    let none : T (rowShort s count (m .xs) (m .marks)) → ⊥ = λ t. let z : T false = rw e at t in z in
+    let none : T (rowShort s count m) → ⊥ = λ t. let z : T false = rw e at t in z in
     let records : count < s .n → ⊥ = λ l. none (short-tested s count m .shows (inl l)) in
     let xs : length (m .xs) < blocks s → ⊥ = λ l. none (short-tested s count m .shows (inr (inl l))) in
     let marks : length (m .marks) < marksNeeded s → ⊥ = λ l. none (short-tested s count m .shows (inr (inr l))) in
@@ -62,11 +62,12 @@ none-short-long s count m e =
 
 -- ---- a fit memory leaves 4 to 7
 
-none-short : (s : Settings) (m : Memory) → Fit s m → rowShort s (length (m .records)) (m .xs) (m .marks) ≡ false
+none-short : (s : Settings) (m : Memory) → Fit s m → rowShort s (length (m .records)) m ≡ false
 none-short s m fit =
     let long = fit .long in
     misses (short-tested s (length (m .records)) m)
-    (⊎-elim (λ l. omega (arith, long .records)) (⊎-elim (λ l. omega (arith, long .xs)) (λ l. omega (arith, long .marks))))
+    (⊎-elim (λ l. omega (arith, long .records))
+    (⊎-elim (λ l. omega (arith, long .xs)) (λ l. omega (arith, long .marks))))
 
 none-below : (n first : ℕ) → first ≡ n → ltb first n ≡ false
 none-below n first e = rw e (le-ltb n n (le-refl n))

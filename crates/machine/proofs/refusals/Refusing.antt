@@ -66,7 +66,7 @@ within s = cannot-fail (limits-tested s)
 -- 1 and 2, whichever task looks; what follows is tested within the limits
 lent-are : (s : Settings) (p : ℕ) (m : Memory) (cases : List Case) (lines : List Line)
     → (WithinLimits s → Are cases lines)
-    → Are (lentCases s (viewOf s (m .records) p) (m .xs) (m .marks) cases) (lentLines s m lines)
+    → Are (lentCases s (viewOf s (m .records) p) m cases) (lentLines s m lines)
 lent-are s p m cases lines rest = (
   record { numbered = refl; tested = fails (limits-tested s) },
   λ fair. (record { numbered = refl; tested = short-line s (within s fair) m }, λ whole. rest (within s fair)),
@@ -78,7 +78,7 @@ module _ (s : Settings) (event : Event) (m : Memory) where
 
   -- 3
   range-are : (l : WithinLimits s) (cases : List Case) (lines : List Line) → Are cases lines
-      → Are (rangeCases s seen (m .xs) (m .marks) cases) (rangeLines s m lines)
+      → Are (rangeCases s seen m cases) (rangeLines s m lines)
   range-are l cases lines rest = (
     record { numbered = refl; tested = found-line s l m Records },
     λ records. (
@@ -104,9 +104,9 @@ module _ (s : Settings) (event : Event) (m : Memory) where
   ownCases = taskCases s (event .kind) (event .task .0) seen
 
   abbrev heldCases : List Case
-  heldCases = rangeCases s seen (m .xs) (m .marks) ownCases
+  heldCases = rangeCases s seen m ownCases
 
-  call-are : Are (lentCases s seen (m .xs) (m .marks) heldCases) (callLines s event m)
+  call-are : Are (lentCases s seen m heldCases) (callLines s event m)
   call-are = lent-are s (event .task .0) m heldCases (rangeLines s m (taskLines s event m))
       (λ l. range-are l ownCases (taskLines s event m) task-are)
 
@@ -114,7 +114,7 @@ module _ (s : Settings) (event : Event) (m : Memory) where
   call-exactly =
       refused-exactly (λ v. said (refuseOr v m (ruled s event m) .answer))
       (accepted-zero (ruled s event m .answer) .0 (ruled-accepted s event m)) (λ why. refl)
-      (lentCases s seen (m .xs) (m .marks) heldCases) (callLines s event m) call-are
+      (lentCases s seen m heldCases) (callLines s event m) call-are
 
   -- ---- 3 tells the first bad value
 
@@ -129,7 +129,7 @@ module _ (s : Settings) (event : Event) (m : Memory) where
       inside : outsideLimits s ≡ false
       inside = misses (fails (limits-tested s)) fair
 
-      whole : rowShort s (length (m .records)) (m .xs) (m .marks) ≡ false
+      whole : rowShort s (length (m .records)) m ≡ false
       whole = misses (short-line s l m) long
 
       go : FirstHolds (rangeLines s m (taskLines s event m)) 3
@@ -143,8 +143,7 @@ module _ (s : Settings) (event : Event) (m : Memory) where
           rw (
             misses (found-line s l m Records) records,
             misses (found-line s l m Xs) xs,
-            passes
-                (found-line s l m Marks) bad,
+            passes (found-line s l m Marks) bad,
           )
           (in-marks records xs (first-found s l m Marks (found-line s l m Marks .shows bad)))
       go (inr (records, inr (xs, inr (marks, inl (four, e))))) = absurd (omega arith)
@@ -165,7 +164,7 @@ module _ (s : Settings) (event : Event) (m : Memory) where
 pub setup-exactly : (s : Settings) (m : Memory) → RefusedExactly (setupSays s m) (setupLines s m)
 setup-exactly s m =
     refused-exactly (λ v. said (refuseOr v m (started s m) .answer)) refl (λ why. refl)
-    (lentCases s (viewOf s (m .records) 0) (m .xs) (m .marks) []) (setupLines s m) (lent-are s 0 m [] [] (λ l. tt))
+    (lentCases s (viewOf s (m .records) 0) m []) (setupLines s m) (lent-are s 0 m [] [] (λ l. tt))
 
 pub refusal-exact : RefusalExact
 refusal-exact = record {
@@ -187,5 +186,5 @@ pub refused-changes-nothing : RefusedChangesNothing
 refused-changes-nothing = record {
   calls = λ s event m. unchanged m (ruled s event m)
       (accepted-zero (ruled s event m .answer) .0 (ruled-accepted s event m)) (verdictOf s event m);
-  setups = λ s m. unchanged m (started s m) refl (setupVerdict s (viewOf s (m .records) 0) (m .xs) (m .marks));
+  setups = λ s m. unchanged m (started s m) refl (setupVerdict s (viewOf s (m .records) 0) m);
 }

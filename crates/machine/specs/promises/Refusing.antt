@@ -86,7 +86,7 @@ abbrev pub taskLines : Settings → Event → Memory → List Line
 taskLines s event m =
     line 4 (s .n ≤ event .task .0)  -- identifier ≥ N
     ∷ line 5 ((event .kind ≡ Release) × (s .mode ≡ 0))  -- release in mode 0
-    ∷ line 6 (NotTheMoment (event .kind) (stateOf m (event .task .0)))  -- ask when not idle; turn when not seeking; release when not holding
+    ∷ line 6 (NotTheMoment (event .kind) (stateOf m (event .task .0)))  -- ask when not idle; turn when not seeking; ..
     ∷ line 7 ((event .kind ≡ Ask) × (s .k ≤ tasksOut s m))  -- ask when k or more tasks are out
     ∷ []
 

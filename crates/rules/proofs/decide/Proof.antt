@@ -2,17 +2,18 @@
 -- record, and the value read gives the next.
 use mathlib.Core.Path.{_≡_, _∙_, sym}
 use denote.Ref.{now}
-use Rattle.machine.{specs.{Memory.Memory, declared.Verdict.Verdict}, proofs.Tests.tests}
-use Rattle.rules.specs.Decision.{rows, seenVerdict}
+use Rattle.machine.{specs.{Memory.Memory, declared.Verdict.Verdict, Refusals.verdict}, proofs.Tests.tests}
+use Rattle.rules.specs.Decision.{rows}
 use Rattle.rules.proofs.Deciding.{refused-decided, accepted-decided}
-use Rattle.rules.proofs.{Accepting.{SeenPassed, seen-passed, touch-needed, next-in-range}, decide.Statement.statement}
+use Rattle.rules.proofs.Accepting.{SeenPassed, seen-passed, touch-needed, next-in-range}
+use Rattle.rules.proofs.decide.Statement.{statement}
 use Rattle.rules.proofs.decide.Tie as tie
 
 abbrev registers : tie.Start → Memory
 registers c = rows (now (c .args .xs)) (now (c .args .marks))
 
 abbrev said : tie.Start → Verdict
-said c = seenVerdict (c .args .s) (c .args .event .kind) (c .args .event .task .0) (c .args .seen) (registers c)
+said c = verdict (c .args .s) (c .args .event .kind) (c .args .event .task .0) (c .args .seen) (registers c)
 
 abbrev start : tie.After-enum-told → tie.Start
 start c = c .before .before .before .before .before .before .before .before .before

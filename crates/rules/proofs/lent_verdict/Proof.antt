@@ -3,11 +3,12 @@ use mathlib.Core.{Path.{_≡_, _∙_, sym}, Bool.{Bool, true, false}}
 use borrow.Author.Tests.{not-true, not-false}
 use denote.Ref.{now}
 use Rattle.machine.{specs.{Settings.permitted, Refusals.rowShort}, proofs.Tests.tests}
+use Rattle.rules.specs.Decision.{rows}
 use Rattle.rules.proofs.lent_verdict.Statement.{statement}
 use Rattle.rules.proofs.lent_verdict.Tie as tie
 
 abbrev short : tie.Start → Bool
-short c = rowShort (c .args .s) (c .args .seen .length) (now (c .args .xs)) (now (c .args .marks))
+short c = rowShort (c .args .s) (c .args .seen .length) (rows (now (c .args .xs)) (now (c .args .marks)))
 
 -- from here on the settings are permitted
 within : (c : tie.Else1) → permitted (c .before .before .before .before .args .s) ≡ true

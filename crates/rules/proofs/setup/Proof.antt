@@ -2,8 +2,8 @@
 use mathlib.Core.Path.{_≡_, _∙_, sym, ap}
 use native.Mathlib.Omega.{arith}
 use denote.Ref.{now}
-use Rattle.machine.{specs.{Memory.{Memory, fill}, declared.Verdict.Verdict}, proofs.Tests.tests}
-use Rattle.rules.specs.Decision.{rows, seenSetupVerdict}
+use Rattle.machine.{specs.{Memory.{Memory, fill}, declared.Verdict.Verdict, Refusals.setupVerdict}, proofs.Tests.tests}
+use Rattle.rules.specs.Decision.{rows}
 use Rattle.rules.proofs.{Rows.{LentPassed, lent-passes}, setup.Statement.statement}
 use Rattle.rules.proofs.setup.Tie as tie
 
@@ -11,7 +11,7 @@ abbrev registers : tie.Start → Memory
 registers c = rows (now (c .args .xs)) (now (c .args .marks))
 
 abbrev said : tie.Start → Verdict
-said c = seenSetupVerdict (c .args .s) (c .args .seen) (registers c)
+said c = setupVerdict (c .args .s) (c .args .seen) (registers c)
 
 abbrev start : tie.After-enum-told → tie.Start
 start c = c .before .before .before .before .before .before .before

@@ -1,9 +1,10 @@
 -- `verdict` is the definition's, by its three parts: what is lent, what it holds, the task.
 use mathlib.Core.{Path.{_≡_, _∙_, sym}, List.[]}
 use denote.Ref.{now}
-use Rattle.machine.specs.{Memory.Memory, Refusals.{first, rangeCases, taskCases}, declared.Verdict.Verdict}
+use Rattle.machine.specs.{Memory.Memory, Refusals.{first, rangeCases, taskCases, verdict, setupVerdict}}
+use Rattle.machine.specs.declared.Verdict.{Verdict}
 use Rattle.machine.proofs.Tests.{tests}
-use Rattle.rules.specs.Decision.{rows, seenVerdict, seenSetupVerdict}
+use Rattle.rules.specs.Decision.{rows}
 use Rattle.rules.proofs.{Rows.{then, lent-passes, verdict-parts}, verdict.Statement.statement}
 use Rattle.rules.proofs.verdict.Tie as tie
 
@@ -11,10 +12,10 @@ abbrev registers : tie.Start → Memory
 registers c = rows (now (c .args .xs)) (now (c .args .marks))
 
 abbrev lent : tie.Start → Verdict
-lent c = seenSetupVerdict (c .args .s) (c .args .seen) (registers c)
+lent c = setupVerdict (c .args .s) (c .args .seen) (registers c)
 
 abbrev range : tie.Start → Verdict
-range c = first (rangeCases (c .args .s) (c .args .seen) (now (c .args .xs)) (now (c .args .marks)) [])
+range c = first (rangeCases (c .args .s) (c .args .seen) (registers c) [])
 
 abbrev start : tie.After-enum-told → tie.Start
 start c = c .before .before .before .before .before
@@ -23,7 +24,7 @@ start c = c .before .before .before .before .before
 lent-accepted : (c : tie.After-enum-told) → lent (start c) ≡ Verdict.Accepted
 lent-accepted c = sym (c .before .before .lent-verdict .ensures) ∙ c .enum-told .given .1
 
-parts : (c : tie.Start) → seenVerdict (c .args .s) (c .args .kind) (c .args .task .0) (c .args .seen) (registers c)
+parts : (c : tie.Start) → verdict (c .args .s) (c .args .kind) (c .args .task .0) (c .args .seen) (registers c)
     ≡ then (lent c) (then (range c) (first (taskCases (c .args .s) (c .args .kind) (c .args .task .0) (c .args .seen))))
 parts c = verdict-parts (c .args .s) (c .args .kind) (c .args .task .0) (c .args .seen) (registers c)
 

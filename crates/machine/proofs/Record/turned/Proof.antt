@@ -11,10 +11,8 @@ enum-known-state c = search tests
 
 turned-requires : tie.Need-turned-requires
 turned-requires c κs = (
-  seeks-on-block _ _ _ _ _ (c .before .before .before .pre)
-      (c .before .state .given .1),
-  seeks-at-point _ _ _ _ _ (c .before .before .before .pre)
-      (c .before .state .given .1),
+  seeks-on-block _ _ _ _ _ (c .before .before .before .pre) (c .before .state .given .1),
+  seeks-at-point _ _ _ _ _ (c .before .before .before .pre) (c .before .state .given .1),
 )
 
 enum-told-2 : tie.Need-enum-told-2

@@ -29,8 +29,7 @@ add-if2 c = omega (
   arith,
   c .width .ensures,
   c .width .ok,
-  scans-a-mark _ _ _
-      (c .before .before .before .before .before .pre .1) (c .before .before .before .point .given .1),
+  scans-a-mark _ _ _ (c .before .before .before .before .before .pre .1) (c .before .before .before .point .given .1),
 )
 
 returns-2 : tie.Need-returns-2
