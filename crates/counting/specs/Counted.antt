@@ -1,5 +1,5 @@
 -- What `count`, `anyBelow` and `firstBad` are of a test on the numbers below n, without their definitions.
--- Theorems: `counted`, `some-below`, `first-bad-first`.
+-- Theorems: `counted`, `any-finds`, `first-bad-is-first`.
 use mathlib.Core.{Path._≡_, Logic.{_⊎_, _↔_}, Bool.{Bool, false}, List.{List, [], _∷_}}
 use Prim.Native.Nat.{ℕ, _≤_, _<_}
 use lib.{Dec.T, ListN.length}

@@ -20,7 +20,7 @@ pub record PlacesNumbered (s : Settings) : Type 0 where
 abbrev pub EachNumbered : Type 0
 EachNumbered = (s : Settings) → PlacesNumbered s
 
--- "A record is idle, or seeking with r, c and a point, or holding with r, c"
+-- "A record is idle, or seeking", or holding: the three tests say which
 pub record StateTold (state : State) : Type 0 where
   pub idle : T (isIdle state) ↔ (state ≡ Idle)
   pub seeking : T (isSeeking state) ↔ ((r : ℕ) × (c : ℕ) × (point : Point) × (state ≡ Seeking r c point))
