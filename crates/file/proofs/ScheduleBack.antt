@@ -4,7 +4,7 @@ use Prim.Native.Nat.{ℕ, zero, suc, _+_, _*_, _%_, _/_, _≤_, _<_}
 use native.Mathlib.{Nat.add-zero, Omega.arith}
 use lib.{Dec.{T, ltb}, ListN.{length, getD, take, drop, List·getD-append}, Seq.{getD-append-add, take-at, ext-getD}}
 use borrow.Author.Tests.{ltb-false, le-ltb, not-false}
-use Rattle.machine.specs.{Settings.permitted, Refusals.first, Answers.Said}
+use Rattle.machine.specs.{Settings.permitted, Refusals.first, Answers.{Said, Tells}}
 use Rattle.machine.specs.declared.{Settings.Settings, Verdict.{Verdict, the-variants.Accepted}, Opening.Opening}
 use Rattle.machine.specs.declared.Reading.{Reading}
 use Rattle.machine.proofs.refusals.{Limits.limits, Deciding.no-case}
@@ -13,7 +13,7 @@ use Rattle.file.specs.File.{mostEvents, writeCases, eventNumber, reading
 use Rattle.file.specs.File.{countOf, codeAt, eventAt, codeBad, headerCases, opening, Read, reading, headerBytes}
 use Rattle.file.specs.File.{codeIn, eventBytes, eventsBytes, fileBytes, numberBad, writeVerdict, writtenBy}
 use Rattle.file.specs.File.{writing}
-use Rattle.file.specs.RoundTrip.{eventsRead, Tells, Carries, ScheduleComesBack}
+use Rattle.file.specs.RoundTrip.{eventsRead, Carries, ScheduleComesBack}
 use Rattle.file.proofs.{Numbers.{bytes-of-word, bytes-of-event}, Lengths.length-file}
 use Rattle.file.proofs.Headers.{Header, header-accepts, opening-passed, reading-given, reading-ends}
 use Rattle.file.proofs.{Refusing.{wrote, each-writing}, Writes.Writable, FileBack.{length-read, getD-read}}

@@ -3,7 +3,7 @@
 use mathlib.Core.{Path._≡_, List.{List, [], _∷_, _++_}}
 use Prim.Native.Nat.{ℕ, zero, suc, _+_, _≤_, _<_}
 use lib.ListN.{length, getD, take, drop}
-use Rattle.machine.specs.{Answers.Said, declared.{Settings.Settings, Opening.Opening, Writing.Writing}}
+use Rattle.machine.specs.{Answers.Tells, declared.{Settings.Settings, Opening.Opening, Writing.Writing}}
 use Rattle.file.specs.File.{opening, reading, Written, writing, openingSaid, readingSaid, writingSaid}
 
 -- the numbers of the events that a reader at a position gives when it is asked so many times
@@ -15,10 +15,6 @@ eventsRead file at (suc times) =
 -- every element is a byte
 abbrev pub Bytes : List ℕ → Type 0
 Bytes file = (i : ℕ) → getD file i 0 < 256
-
--- an answer is an acceptance, and these are the values beside it
-abbrev pub Tells : Said → List ℕ → Type 0
-Tells says values = (says .number ≡ 0) × (says .values ≡ values)
 
 -- an accepted file: its settings and the events that a reader gives, written into any room long enough, are its bytes
 -- again

@@ -5,14 +5,16 @@ use native.Mathlib.Omega.{arith}
 use lib.Dec.{T}
 use Rattle.machine.specs.{Places.nameNumber, Records.isSeeking, Memory.{Memory, stateOf}}
 use Rattle.machine.specs.Calls.{Outcome, eventOf, standing, freed, answerOf, nextState, call}
-use Rattle.machine.specs.promises.{Demands.{Seeks, Tells}, OneAccess.AcceptedIn, Telling.EachAnswerTells}
+use Rattle.machine.specs.promises.{Demands.Seeks, OneAccess.AcceptedIn, Telling.EachAnswerTells}
 use Rattle.machine.specs.declared.{Settings.Settings, State.{State, the-variants.{Idle, Seeking, Holding}}}
 use Rattle.machine.specs.declared.{Kind.{Kind, the-variants.{Ask, Turn, Release}}, Answer.Answer}
+use Rattle.machine.specs.Answers.{said, Tells}
 use Rattle.machine.proofs.{refusals.Passing.by-the-rules, calls.Effects.only-the-register-written-changes}
 
 -- an answer tells what its case does
-pub tells : (answer is : Answer) (values : List ℕ) → answer ≡ is → Tells is values → (answer ≡ is) × Tells answer values
-tells answer is values e told = (e, subst (λ (a : Answer). Tells a values) (sym e) told)
+pub tells : (answer is : Answer) (values : List ℕ) → answer ≡ is → Tells (said is) values
+    → (answer ≡ is) × Tells (said answer) values
+tells answer is values e told = (e, subst (λ (a : Answer). Tells (said a) values) (sym e) told)
 
 seeks-told : (s : Settings) (state : State) → T (isSeeking state) → standing s state ≡ Answer.Seeks
 seeks-told s Idle t = absurd t

@@ -5,7 +5,7 @@ use mathlib.Core.{Path._≡_, Bool.{Bool, true, cond, _&&_}, List.{List, [], _�
 use Prim.Native.Nat.{ℕ, _+_, _-_, _*_, _/_, _≤_, _<_}
 use lib.Dec.{T, eqb}
 use Rattle.machine.specs.{Places.nameNumber, Records.{isSeeking, isHolding}, Memory.{Memory, stateOf, largest}}
-use Rattle.machine.specs.{Answers.{said, isAccepted}, Calls.{nameAt, call, setup, turn, release}}
+use Rattle.machine.specs.{Answers.{said, Tells, isAccepted}, Calls.{nameAt, call, setup, turn, release}}
 use Rattle.machine.specs.{promises.Ranges.WithinLimits, History.{run, Answered, history, turnsOf, turns}}
 use Rattle.machine.specs.declared.{Settings.Settings, State.{State, the-variants.{Idle, Seeking, Holding}}}
 use Rattle.machine.specs.declared.{Event.Event, Answer.Answer}
@@ -39,10 +39,6 @@ Seeks m p = T (isSeeking (stateOf m p))
 
 abbrev pub HoldsSome : Memory → ℕ → Type 0
 HoldsSome m p = T (isHolding (stateOf m p))
-
--- an answer is an acceptance, and these are the values beside it
-abbrev pub Tells : Answer → List ℕ → Type 0
-Tells answer values = (said answer .number ≡ 0) × (said answer .values ≡ values)
 
 -- what the last accepted call of task p answered; `before` where there was none
 abbrev pub lastAnswer : ℕ → List Answered → Answer → Answer
@@ -89,9 +85,9 @@ LastAnswerTrue =
 -- are acceptances whose one value is the name
 pub record Told (s : Settings) (lent : Memory) (events : List Event) (p n : ℕ) : Type 0 where
   pub answered : lastAnswer p (historyOf s lent events) Answer.Done ≡ Answer.Holds (record { 0 = n })
-  pub answer-tells : Tells (lastAnswer p (historyOf s lent events) Answer.Done) (n ∷ [])
+  pub answer-tells : Tells (said (lastAnswer p (historyOf s lent events) Answer.Done)) (n ∷ [])
   pub freed : s .mode ≡ 1 → call s (release p) (memoryAfter s lent events) .answer ≡ Answer.Freed (record { 0 = n })
-  pub freed-tells : s .mode ≡ 1 → Tells (call s (release p) (memoryAfter s lent events) .answer) (n ∷ [])
+  pub freed-tells : s .mode ≡ 1 → Tells (said (call s (release p) (memoryAfter s lent events) .answer)) (n ∷ [])
 
 abbrev pub HeldNameAnswered : Type 0
 HeldNameAnswered =

@@ -4,22 +4,23 @@
 use mathlib.Core.{Path._≡_, List.{[], _∷_}}
 use Prim.Native.Nat.{ℕ}
 use Rattle.machine.specs.{Memory.Memory, Calls.{eventOf, call, setup, release}}
-use Rattle.machine.specs.promises.{Demands.{SetUp, HoldsName, Seeks, Tells}, OneAccess.AcceptedIn}
+use Rattle.machine.specs.promises.{Demands.{SetUp, HoldsName, Seeks}, OneAccess.AcceptedIn}
+use Rattle.machine.specs.Answers.{said, Tells}
 use Rattle.machine.specs.declared.{Settings.Settings, Kind.Kind, Answer.Answer}
 
 pub record AnswerTells (s : Settings) (p : ℕ) (m : Memory) : Type 0 where
   -- a call after which the task seeks answers that, and nothing beside it
   pub seeks : (kind : Kind) → AcceptedIn s (eventOf kind p) m → Seeks (call s (eventOf kind p) m .memory) p
-      → (call s (eventOf kind p) m .answer ≡ Answer.Seeks) × Tells (call s (eventOf kind p) m .answer) []
+      → (call s (eventOf kind p) m .answer ≡ Answer.Seeks) × Tells (said (call s (eventOf kind p) m .answer)) []
   -- one after which it holds answers the name that it then holds
   pub holds : (kind : Kind) (n : ℕ) → AcceptedIn s (eventOf kind p) m
       → HoldsName s (call s (eventOf kind p) m .memory) p n
       → (call s (eventOf kind p) m .answer ≡ Answer.Holds (record { 0 = n }))
-      × Tells (call s (eventOf kind p) m .answer) (n ∷ [])
+      × Tells (said (call s (eventOf kind p) m .answer)) (n ∷ [])
   -- a release answers the name that the task held
   pub frees : (n : ℕ) → AcceptedIn s (release p) m → HoldsName s m p n
-      → (call s (release p) m .answer ≡ Answer.Freed (record { 0 = n })) × Tells (call s (release p) m .answer) (n ∷ [])
-  pub done : SetUp s m → Tells (setup s m .answer) []
+      → (call s (release p) m .answer ≡ Answer.Freed (record { 0 = n })) × Tells (said (call s (release p) m .answer)) (n ∷ [])
+  pub done : SetUp s m → Tells (said (setup s m .answer)) []
 
 abbrev pub EachAnswerTells : Type 0
 EachAnswerTells = (s : Settings) (p : ℕ) (m : Memory) → AnswerTells s p m
