@@ -1,5 +1,5 @@
--- 01, "Both sides of each edge": the nine starred lines and both sides of the limits, as one statement. A run begins with
--- setup of a lent memory. Where a line leaves N, k, mode or task open it is stated for all that are permitted; the
+-- 01, "Both sides of each edge": the nine starred lines and both sides of the limits, as one statement. A run begins
+-- with setup of a lent memory. Where a line leaves N, k, mode or task open it is stated for all that are permitted; the
 -- lines that fix N and k and follow a run of turns are stated on the largest memory: setup clears what is needed, and
 -- by `SurplusNeverBears` the rest changes no answer (docs/DECISIONS.md).
 use mathlib.Core.{Path._≡_, Logic._⊎_, List.{List, [], _∷_, _++_, map}}

@@ -19,7 +19,8 @@ pub record AnswerTells (s : Settings) (p : ℕ) (m : Memory) : Type 0 where
       × Tells (said (call s (eventOf kind p) m .answer)) (n ∷ [])
   -- a release answers the name that the task held
   pub frees : (n : ℕ) → AcceptedIn s (release p) m → HoldsName s m p n
-      → (call s (release p) m .answer ≡ Answer.Freed (record { 0 = n })) × Tells (said (call s (release p) m .answer)) (n ∷ [])
+      → (call s (release p) m .answer ≡ Answer.Freed (record { 0 = n }))
+      × Tells (said (call s (release p) m .answer)) (n ∷ [])
   pub done : SetUp s m → Tells (said (setup s m .answer)) []
 
 abbrev pub EachAnswerTells : Type 0
