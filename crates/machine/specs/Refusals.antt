@@ -4,11 +4,11 @@ use Prim.Native.Nat.{ℕ}
 use lib.{Dec.{eqb, leb, ltb}, ListN.length}
 use Rattle.machine.specs.{Settings.permitted, Places.blocks, Records.{isIdle, isSeeking, isHolding}}
 use Rattle.machine.specs.Memory.{Memory, marksNeeded, badX, badMark}
-use Rattle.machine.specs.declared.{Settings.Settings, State.State, Kind.{Kind, the-variants.{Ask, Turn, Release}}}
+use Rattle.machine.specs.declared.{Settings.Settings, State.{State, the-variants.{Idle, Seeking, Holding}}, Kind.{Kind, the-variants.{Ask, Turn, Release}}}
 use Rattle.machine.specs.declared.Row.the-variants.{Records, Xs, Marks}
 use Rattle.machine.specs.declared.Refusal.{Refusal}
 use Rattle.machine.specs.declared.Refusal.the-variants.{Limits, ShortRow, OutOfRange, NoSuchTask, OneTime}
-use Rattle.machine.specs.declared.Refusal.the-variants.{WrongMoment, TooManyOut}
+use Rattle.machine.specs.declared.Refusal.the-variants.{TaskIdle, TaskSeeks, TaskHolds, TooManyOut}
 use Rattle.machine.specs.declared.{View.View, Verdict.{Verdict, the-variants.{Accepted, Refused}}}
 
 -- a refusal, and whether its case holds
@@ -52,11 +52,17 @@ oneTimeRelease s Ask = false
 oneTimeRelease s Turn = false
 oneTimeRelease s Release = eqb (s .mode) 0
 
--- 6: ask when not idle; turn when not seeking; release when not holding
+-- the moment is wrong: ask when not idle; turn when not seeking; release when not holding
 abbrev pub wrongMoment : Kind → State → Bool
 wrongMoment Ask state = not (isIdle state)
 wrongMoment Turn state = not (isSeeking state)
 wrongMoment Release state = not (isHolding state)
+
+-- 15 to 17, by what the task is at then
+abbrev pub moment : State → Refusal
+moment Idle = TaskIdle
+moment (Seeking r c point) = TaskSeeks
+moment (Holding r c) = TaskHolds
 
 -- 7: ask when k or more tasks are out
 abbrev pub tooManyOut : Settings → Kind → ℕ → Bool
@@ -64,7 +70,7 @@ tooManyOut s Ask out = leb (s .k) out
 tooManyOut s Turn out = false
 tooManyOut s Release out = false
 
--- the cases in their order: what is lent, 1 and 2; what it holds, 3, above; the task, 4 to 7
+-- the cases in their order: what is lent, 1 and 2; what it holds, 3, above; the task, 4, 5, one of 15 to 17, 7
 abbrev pub lentCases : Settings → View → Memory → List Case → List Case
 lentCases s seen m rest =
     when (outsideLimits s) Limits
@@ -75,7 +81,7 @@ abbrev pub taskCases : Settings → Kind → ℕ → View → List Case
 taskCases s kind p seen =
     when (noSuchTask s p) NoSuchTask
     ∷ when (oneTimeRelease s kind) OneTime
-    ∷ when (wrongMoment kind (seen .own .state)) WrongMoment
+    ∷ when (wrongMoment kind (seen .own .state)) (moment (seen .own .state))
     ∷ when (tooManyOut s kind (seen .out)) TooManyOut
     ∷ []
 
@@ -83,6 +89,6 @@ taskCases s kind p seen =
 abbrev pub setupVerdict : Settings → View → Memory → Verdict
 setupVerdict s seen m = first (lentCases s seen m [])
 
--- the other calls 1 to 7 ascending
+-- the other calls all of them
 abbrev pub verdict : Settings → Kind → ℕ → View → Memory → Verdict
 verdict s kind p seen m = first (lentCases s seen m (rangeCases s seen m (taskCases s kind p seen)))

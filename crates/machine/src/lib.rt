@@ -91,14 +91,17 @@ pub enum Row {
     Marks,
 }
 
-// Why a call is refused, in the order of their numbers, 1 to 14.
+// Why a call is refused, in the order of the tests. Their numbers are 1 to 17 without 6, which is
+// retired: 15 to 17 stand at its place, and tell what the task was at when the moment was wrong.
 pub enum Refusal {
     Limits,
     ShortRow,
     OutOfRange { row: Row, index: usize },
     NoSuchTask,
     OneTime,
-    WrongMoment,
+    TaskIdle,
+    TaskSeeks,
+    TaskHolds,
     TooManyOut,
     FileLength,
     Letters,
@@ -162,7 +165,9 @@ impl Refusal {
             Refusal::OutOfRange { row: _, index: _ } => 3,
             Refusal::NoSuchTask => 4,
             Refusal::OneTime => 5,
-            Refusal::WrongMoment => 6,
+            Refusal::TaskIdle => 15,
+            Refusal::TaskSeeks => 16,
+            Refusal::TaskHolds => 17,
             Refusal::TooManyOut => 7,
             Refusal::FileLength => 8,
             Refusal::Letters => 9,

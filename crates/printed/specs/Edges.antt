@@ -64,7 +64,7 @@ sampleText =
     bytesOf "grid 1 2 2\n0 ask 0 seeks\n1 ask 1 seeks\n2 turn 0 seeks\n3 turn 1 seeks\n"
     ++ (bytesOf "4 turn 0 seeks\n5 turn 0 seeks\n6 turn 0 seeks\n7 turn 0 seeks\n8 turn 0 holds 2\n"
     ++ (bytesOf "9 turn 1 seeks\n10 turn 1 seeks\n11 turn 1 seeks\n12 turn 1 holds 0\n"
-    ++ bytesOf "13 free 0 freed 2\n14 turn 0 refused 6\n15 free 1 freed 0\nend 0 2 6\n"))
+    ++ bytesOf "13 free 0 freed 2\n14 turn 0 refused 15\n15 free 1 freed 0\nend 0 2 6\n"))
 
 -- k = 5: places (0,0), (0,4), (1,0), (2,2), (4,0) have names 0, 4, 5, 11, 14
 abbrev pub FiveNames : Type 0

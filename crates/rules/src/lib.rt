@@ -9,6 +9,7 @@ use machine::Record;
 use machine::Refusal;
 use machine::Row;
 use machine::Settings;
+use machine::State;
 use machine::TaskId;
 use machine::Verdict;
 use machine::View;
@@ -21,7 +22,7 @@ ghost use lib.ListN.{length, getD};
 ghost use Rattle.machine.specs.Settings.{permitted};
 ghost use Rattle.machine.specs.Places.{blocks};
 ghost use Rattle.machine.specs.Memory.{marksNeeded, badX, badMark, fill};
-ghost use Rattle.machine.specs.Refusals.{first, rowShort, setupVerdict, rangeCases, taskCases, oneTimeRelease, wrongMoment, tooManyOut, verdict};
+ghost use Rattle.machine.specs.Refusals.{first, rowShort, setupVerdict, rangeCases, taskCases, oneTimeRelease, wrongMoment, moment, tooManyOut, verdict};
 ghost use Rattle.machine.specs.promises.OneAccess.{RegisterNeeded};
 ghost use Rattle.rules.specs.Decision.{rows, Sees, touched, touching, decided, decision, prepared, preparation};
 
@@ -140,6 +141,18 @@ fn wrong_moment(kind: Kind, own: Record) -> bool
     }
 }
 
+// Why the moment is wrong, by what the task is at.
+fn moment(own: Record) -> Refusal
+    ensures { λ why. ⌜ why ≡ moment (own .state) ⌝ }
+{
+    let state = own.state;
+    match state {
+        State::Idle => Refusal::TaskIdle,
+        State::Seeking { .. } => Refusal::TaskSeeks,
+        State::Holding { .. } => Refusal::TaskHolds,
+    }
+}
+
 // Ask when k or more tasks are out.
 fn too_many_out(s: Settings, kind: Kind, out: usize) -> bool
     ensures { λ yes. ⌜ yes ≡ tooManyOut s kind out ⌝ }
@@ -193,7 +206,7 @@ fn range_verdict(s: Settings, seen: View, xs: &[u32], marks: &[u8]) -> Verdict
     Verdict::Accepted
 }
 
-// What 4 to 7 say.
+// What 4, 5, 15 to 17 and 7 say.
 fn task_verdict(s: Settings, kind: Kind, seen: View, task: TaskId) -> Verdict
     ensures { λ v. ⌜ v ≡ first (taskCases s kind (task .0) seen) ⌝ }
 {
@@ -205,7 +218,7 @@ fn task_verdict(s: Settings, kind: Kind, seen: View, task: TaskId) -> Verdict
     }
     let own = seen.own;
     if wrong_moment(kind, own) {
-        return Verdict::Refused(Refusal::WrongMoment);
+        return Verdict::Refused(moment(own));
     }
     if too_many_out(s, kind, seen.out) {
         return Verdict::Refused(Refusal::TooManyOut);
@@ -213,7 +226,7 @@ fn task_verdict(s: Settings, kind: Kind, seen: View, task: TaskId) -> Verdict
     Verdict::Accepted
 }
 
-// What the tests of ask, turn and release say: 1 to 7 ascending.
+// What the tests of ask, turn and release say: 1 to 5, 15 to 17, 7.
 fn verdict(s: Settings, kind: Kind, seen: View, xs: &[u32], marks: &[u8], task: TaskId) -> Verdict
     ensures { λ v. ⌜ v ≡ verdict s kind (task .0) seen (rows (now (xs .entry)) (now (marks .entry))) ⌝ }
 {

@@ -51,7 +51,9 @@ fn tell(answer: Answer) {
         }
         Answer::Refused(why) => match why {
             Refusal::TooManyOut => say(b"waits for a release"),
-            Refusal::WrongMoment => say(b"has nothing to do"),
+            Refusal::TaskIdle => say(b"has not asked"),
+            Refusal::TaskSeeks => say(b"seeks already"),
+            Refusal::TaskHolds => say(b"holds already"),
             _ => say(b"stops"),
         },
     }

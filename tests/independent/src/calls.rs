@@ -2,8 +2,10 @@
 
 use std::fmt;
 
-use crate::grid::{Identifier, Name, Place, Point, Record, Registers, Rules, Settings};
+use crate::grid::{Identifier, Name, Place, Point, Record, Registers, Settings};
 use crate::refusal::{Refusal, Row};
+use crate::rules::Rules;
+use crate::schedule::Kind;
 
 /// The lent rows. They may be longer than needed, and may hold anything.
 #[derive(Clone, PartialEq, Eq, Hash, Debug)]
@@ -78,7 +80,7 @@ pub fn setup(
     Ok(Answer::Done)
 }
 
-/// Ask tests 1 to 4, 6 and 7.
+/// Ask tests 1 to 4, 16 and 17, then 7.
 pub fn ask(
     rules: &dyn Rules,
     settings: Settings,
@@ -86,13 +88,7 @@ pub fn ask(
     memory: &mut Memory,
 ) -> Result<Answer, Refusal> {
     let p = test_task(rules, settings, id, memory)?;
-    if memory.records[p] != Record::Idle {
-        return Err(Refusal::WrongMoment);
-    }
-    let tasks = &memory.records[..settings.tasks()];
-    if tasks.iter().filter(|record| rules.counts(**record)).count() >= settings.k() {
-        return Err(Refusal::TooManyOut);
-    }
+    rules.test_ask(settings, &memory.records[..settings.tasks()], p)?;
     let start = Place { r: 0, c: 0 };
     memory.records[p] = if settings.k() == 1 {
         Record::Holding(start)
@@ -102,7 +98,7 @@ pub fn ask(
     Ok(seeks_or_holds(rules, settings, memory.records[p]))
 }
 
-/// Turn tests 1 to 4 and 6.
+/// Turn tests 1 to 4, 15 and 17.
 pub fn turn(
     rules: &dyn Rules,
     settings: Settings,
@@ -111,13 +107,13 @@ pub fn turn(
 ) -> Result<Answer, Refusal> {
     let p = test_task(rules, settings, id, memory)?;
     let Record::Seeking(place, point) = memory.records[p] else {
-        return Err(Refusal::WrongMoment);
+        return Err(rules.wrong_moment(Kind::Turn, memory.records[p]));
     };
     memory.records[p] = rules.turn(settings, p, place, point, &mut memory.registers);
     Ok(seeks_or_holds(rules, settings, memory.records[p]))
 }
 
-/// Release tests 1 to 6.
+/// Release tests 1 to 5, 15 and 16.
 pub fn release(
     rules: &dyn Rules,
     settings: Settings,
@@ -129,7 +125,7 @@ pub fn release(
         return Err(Refusal::OneTimeRelease);
     }
     let Record::Holding(place) = memory.records[p] else {
-        return Err(Refusal::WrongMoment);
+        return Err(rules.wrong_moment(Kind::Free, memory.records[p]));
     };
     if settings.is_block(place) {
         rules.release(settings, p, place, &mut memory.registers);

@@ -3,9 +3,9 @@
 
 use crate::comparison::{self, Counts, Input, Part};
 use crate::generate::{fixed_cases, random_case, Case};
-use crate::grid::Grid;
 use crate::listing::listing;
 use crate::program::Program;
+use crate::rules::Grid;
 
 pub struct Plan {
     pub program: Program,

@@ -26,7 +26,7 @@ pub struct Part {
     pub family: String,
     /// The lines that are due.
     pub due: String,
-    /// How often each answer stands in them: `seeks`, `holds`, `freed`, `refused 6`, ...
+    /// How often each answer stands in them: `seeks`, `holds`, `freed`, `refused 7`, ...
     pub answers: Counts,
 }
 

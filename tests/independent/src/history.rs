@@ -1,8 +1,9 @@
 //! A setup and the calls after it, with what the end line of the listing counts.
 
 use crate::calls::{self, Answer, Memory};
-use crate::grid::{Record, Rules, Settings};
+use crate::grid::{Record, Settings};
 use crate::refusal::Refusal;
+use crate::rules::Rules;
 use crate::schedule::{Event, Kind};
 
 #[derive(Clone)]

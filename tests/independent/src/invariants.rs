@@ -7,9 +7,10 @@ use crate::calls::{Answer, Memory};
 use crate::generate::histories::random_schedule;
 use crate::generate::paths;
 use crate::generate::worst::{self, in_order, worst_schedule, LastWriter};
-use crate::grid::{Grid, Record};
+use crate::grid::Record;
 use crate::history::History;
 use crate::random::Random;
+use crate::rules::Grid;
 use crate::schedule::{read_all, Event, Kind};
 use crate::Settings;
 

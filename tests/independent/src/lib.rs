@@ -1,7 +1,8 @@
-//! The grid written a second time, from document 01 alone, to be compared with the proved program.
+//! The grid written a second time, from document 01 with the requests of 02 alone, to be compared
+//! with the proved program.
 //!
-//! The machine is `grid` (what an accepted call does), `calls` (who is refused and why), `schedule`
-//! (the file) and `listing` (the text). `shortcuts` holds the wrong grids that 01 warns of.
+//! The machine is `grid` (the memory), `rules` (what an accepted call does), `calls` (who is refused
+//! and why), `schedule` (the file) and `listing` (the text). `variants` holds wrong grids.
 //! `generate` makes schedules and damaged files from a seed, `call_cases` calls on any memory;
 //! `comparison` runs a program on them. The rest are the commands.
 
@@ -18,7 +19,8 @@ pub mod power;
 pub mod program;
 pub mod random;
 pub mod refusal;
+pub mod rules;
 pub mod schedule;
-pub mod shortcuts;
+pub mod variants;
 
 pub use grid::Settings;

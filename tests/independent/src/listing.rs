@@ -2,9 +2,9 @@
 
 use std::fmt::Write;
 
-use crate::grid::Rules;
 use crate::history::History;
 use crate::refusal::Refusal;
+use crate::rules::Rules;
 use crate::schedule::{open, Reader};
 
 /// The listing of any bytes under the rules.

@@ -8,11 +8,12 @@ use std::process::ExitCode;
 use std::time::{Instant, SystemTime, UNIX_EPOCH};
 
 use independent::generate::worst::{in_order, worst_schedule, LastWriter};
-use independent::grid::{Grid, Rules, Settings};
+use independent::grid::Settings;
 use independent::listing::listing;
 use independent::program::Program;
+use independent::rules::{Grid, Rules};
 use independent::schedule::{file_of, Event, Kind, MOST_EVENTS};
-use independent::shortcuts::rules_named;
+use independent::variants::rules_named;
 use independent::{call_cases, compare, invariants, power};
 
 const USAGE: &str = "\
@@ -21,13 +22,13 @@ independent compare PROGRAM [--seed S] [--count C] [--seconds T] [-- ARGUMENTS..
 independent fresh PROGRAM [--seconds T] [-- ARGUMENTS...]
     the same with random cases only, of a seed from the clock, which it prints
 independent power [--seed S] [--count C]
-    shows that the schedules tell each shortcut from the grid
+    shows that the schedules and the calls tell each variant from the grid
 independent invariants [--seed S] [--count C]
     tries demand 3 on the grid here
 independent list FILE
     prints the listing of a schedule file
 independent gridlist [--variant NAME]
-    prints the listing of standard input, by the grid or by a shortcut
+    prints the listing of standard input, by the grid or by a variant
 independent make MODE N K EVENTS...
     writes a schedule file, e.g. make 1 2 2 ask 0 turn 0 free 0
 independent worst MODE N K
@@ -42,7 +43,7 @@ independent calls --store DIR
 independent calls --check-store DIR
     compares these two files with what would be written
 independent memories [--variant NAME]
-    prints what is due on an input of calls, by the grid or by a shortcut
+    prints what is due on an input of calls, by the grid or by a variant
 independent time FILE
     prints the time that the listing of FILE takes here";
 

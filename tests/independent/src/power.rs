@@ -1,16 +1,16 @@
-//! The command `power`: the generated schedules tell each of 01's shortcuts from the grid, and so do the
-//! calls on arbitrary memories.
+//! The command `power`: the generated schedules tell each variant from the grid, and so do the calls
+//! on arbitrary memories.
 
 use std::collections::HashMap;
 use std::thread;
 
 use crate::call_cases::{self, CallCase};
 use crate::generate::{fixed_cases, random_case, Case};
-use crate::grid::{Grid, Rules};
 use crate::listing::listing;
-use crate::shortcuts::SHORTCUTS;
+use crate::rules::{Grid, Rules};
+use crate::variants::{self, Variant};
 
-/// What the set says of one shortcut.
+/// What the set says of one variant.
 struct Told<'a> {
     /// The cases whose listings differ from the grid's.
     differing: usize,
@@ -58,17 +58,17 @@ fn clashes(text: &str) -> bool {
     })
 }
 
-/// The first line that differs, as the grid and the shortcut print it.
+/// The first line that differs, as the grid and the variant print it.
 fn first_difference(rules: &dyn Rules, case: &Case) -> String {
     let (grid, other) = (listing(&Grid, &case.bytes), listing(rules, &case.bytes));
     let mut lines = grid.lines().zip(other.lines());
     match lines.find(|(right, wrong)| right != wrong) {
-        Some((right, wrong)) => format!("grid '{right}', shortcut '{wrong}'"),
+        Some((right, wrong)) => format!("grid '{right}', variant '{wrong}'"),
         None => "one text goes on after the other".to_string(),
     }
 }
 
-/// Under how many of the calls the shortcut answers or leaves something else than the grid.
+/// Under how many of the calls the variant answers or leaves something else than the grid.
 fn calls_told(rules: &dyn Rules, cases: &[CallCase]) -> usize {
     let other = |case: &&CallCase| {
         let again = CallCase::new(rules, case.tries, case.settings, case.before.clone(), case.call);
@@ -77,7 +77,7 @@ fn calls_told(rules: &dyn Rules, cases: &[CallCase]) -> usize {
     cases.iter().filter(other).count()
 }
 
-/// Prints one line a shortcut (how many listings differ from the grid's, in how many of these two
+/// Prints one line a variant (how many listings differ from the grid's, in how many of these two
 /// tasks hold one name, and the shortest), then one with the calls that differ, and answers how many
 /// were told from the grid and how many not, by schedules and by calls.
 pub fn run(seed: u64, count: u64) -> (usize, usize) {
@@ -88,13 +88,16 @@ pub fn run(seed: u64, count: u64) -> (usize, usize) {
     };
     let cases: Vec<(Case, String)> =
         fixed_cases().into_iter().chain(random).map(with_listing).collect();
-    println!("seed {seed}: {} cases, each under the grid and under each shortcut", cases.len());
+    println!("seed {seed}: {} cases, each under the grid and under each variant", cases.len());
+    let variants: Vec<Variant> = variants::all().collect();
     let told: Vec<Told> = thread::scope(|scope| {
-        let telling = SHORTCUTS.map(|(_, rules)| scope.spawn(|| tell(rules, &cases)));
-        telling.map(|told| told.join().expect("a listing ends for all bytes")).into()
+        let cases = &cases;
+        let telling: Vec<_> =
+            variants.iter().map(|(_, rules)| scope.spawn(move || tell(*rules, cases))).collect();
+        telling.into_iter().map(|told| told.join().expect("a listing ends for all bytes")).collect()
     });
     let mut passed = 0;
-    for ((name, rules), Told { differing, clashing, shortest }) in SHORTCUTS.iter().zip(told) {
+    for ((name, rules), Told { differing, clashing, shortest }) in variants.iter().zip(told) {
         let Some(case) = shortest else {
             println!("{name}: NOT TOLD from the grid");
             continue;
@@ -105,9 +108,9 @@ pub fn run(seed: u64, count: u64) -> (usize, usize) {
         println!("{name}: {differing} differ, {clashing} clash; shortest: {label}: {difference}");
     }
     let calls = call_cases::cases(seed);
-    println!("{} calls on arbitrary memories, under the grid and under each shortcut", calls.len());
-    for (name, rules) in SHORTCUTS {
-        match calls_told(rules, &calls) {
+    println!("{} calls on arbitrary memories, under the grid and under each variant", calls.len());
+    for (name, rules) in &variants {
+        match calls_told(*rules, &calls) {
             0 => println!("{name}: NOT TOLD from the grid by calls"),
             differing => {
                 passed += 1;
@@ -115,5 +118,5 @@ pub fn run(seed: u64, count: u64) -> (usize, usize) {
             }
         }
     }
-    (passed, 2 * SHORTCUTS.len() - passed)
+    (passed, 2 * variants.len() - passed)
 }

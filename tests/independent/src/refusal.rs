@@ -1,4 +1,4 @@
-//! 01, "Numbers of refusal".
+//! 01, "Numbers of refusal", with those of 02.
 
 use std::fmt;
 
@@ -20,7 +20,8 @@ impl fmt::Display for Row {
     }
 }
 
-/// Why a call is refused; only 3 says more than its number.
+/// Why a call is refused; only 3 says more than its number. 6 is retired (02, P1): only a variant
+/// answers it.
 #[derive(Clone, Copy, PartialEq, Eq, Debug)]
 pub enum Refusal {
     Settings,
@@ -37,6 +38,9 @@ pub enum Refusal {
     EventCode,
     NoEvent,
     OutputRoom,
+    TaskIdle,
+    TaskSeeking,
+    TaskHolding,
 }
 
 impl Refusal {
@@ -56,6 +60,9 @@ impl Refusal {
             Refusal::EventCode => 12,
             Refusal::NoEvent => 13,
             Refusal::OutputRoom => 14,
+            Refusal::TaskIdle => 15,
+            Refusal::TaskSeeking => 16,
+            Refusal::TaskHolding => 17,
         }
     }
 }

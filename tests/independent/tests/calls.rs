@@ -7,8 +7,9 @@ use independent::call_cases::{
     MOST_RECORDS, MOST_X,
 };
 use independent::calls::{Answer, Memory, Needed};
-use independent::grid::{Direction, Grid, Place, Point, Record, Registers, Settings};
+use independent::grid::{Direction, Place, Point, Record, Registers, Settings};
 use independent::refusal::{Refusal, Row};
+use independent::rules::Grid;
 
 fn at(r: u8, c: u8) -> Place {
     Place { r, c }

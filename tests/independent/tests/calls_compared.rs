@@ -6,8 +6,8 @@ use std::path::{Path, PathBuf};
 use std::process::Command;
 
 use independent::call_cases::{cases, inputs, outcomes, pack, store, CallCase, MOST_BYTES};
-use independent::grid::Grid;
-use independent::shortcuts::SHORTCUTS;
+use independent::rules::Grid;
+use independent::variants;
 
 const BINARY: &str = env!("CARGO_BIN_EXE_independent");
 
@@ -59,12 +59,12 @@ fn stored_files_are_checked() {
 }
 
 #[test]
-fn each_shortcut_is_told_by_the_cases_and_by_the_stored_ones() {
+fn each_variant_is_told_by_the_cases_and_by_the_stored_ones() {
     let stored: Vec<u8> = store::cases().iter().flat_map(pack).collect();
     let all: Vec<u8> = cases(1).iter().flat_map(pack).collect();
     for input in [stored, all] {
         let due = outcomes(&Grid, &input).unwrap();
-        for (name, rules) in SHORTCUTS {
+        for (name, rules) in variants::all() {
             assert_ne!(outcomes(rules, &input).unwrap(), due, "{name}");
         }
     }
@@ -88,7 +88,7 @@ fn a_program_with_the_grid_agrees() {
 }
 
 #[test]
-fn a_program_with_a_shortcut_differs() {
+fn a_program_with_a_variant_differs() {
     let words = [BINARY, "--seed", "2", "--", "memories", "--variant", "shared-mark"];
     let (success, passed, failed, text) = compared("differs", &words);
     assert!(!success && passed > 0 && failed > 100);

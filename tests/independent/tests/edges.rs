@@ -1,9 +1,10 @@
 //! 01, "Both sides of each edge".
 
 use independent::calls::Answer;
-use independent::grid::{Grid, Name, Place, Settings};
+use independent::grid::{Name, Place, Settings};
 use independent::history::History;
 use independent::refusal::Refusal;
+use independent::rules::Grid;
 use independent::schedule::{Event, Kind};
 
 struct Board(History<'static>);

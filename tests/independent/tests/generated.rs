@@ -5,9 +5,10 @@ use std::collections::BTreeSet;
 use independent::call_cases::{self, Call};
 use independent::calls::{Answer, Needed};
 use independent::generate::{fixed_cases, random_case, worst};
-use independent::grid::{Direction, Grid, Point, Record, Settings};
+use independent::grid::{Direction, Point, Record, Settings};
 use independent::listing::listing;
 use independent::refusal::{Refusal, Row};
+use independent::rules::Grid;
 use independent::schedule::read_all;
 
 #[test]
@@ -42,7 +43,7 @@ fn cases_have_every_name_of_every_grid_and_every_refusal() {
     }
     let all: usize = (1..=16).map(|k| Settings::new(1, 16, k).names()).sum();
     assert_eq!(names.len(), 2 * all);
-    let due = [1, 4, 5, 6, 7, 8, 9, 10, 11, 12];
+    let due = [1, 4, 5, 7, 8, 9, 10, 11, 12, 15, 16, 17];
     assert_eq!(refusals.into_iter().collect::<Vec<u8>>(), due);
 }
 
@@ -114,8 +115,10 @@ fn calls_have_every_refusal_every_answer_and_every_point() {
             Err(Refusal::ShortRow) => "2",
             Err(Refusal::Identifier) => "4",
             Err(Refusal::OneTimeRelease) => "5",
-            Err(Refusal::WrongMoment) => "6",
             Err(Refusal::TooManyOut) => "7",
+            Err(Refusal::TaskIdle) => "15",
+            Err(Refusal::TaskSeeking) => "16",
+            Err(Refusal::TaskHolding) => "17",
             Err(_) => "another",
         });
         let (Call::Turn(id), Ok(_)) = (case.call, case.answer) else {
@@ -137,5 +140,5 @@ fn calls_have_every_refusal_every_answer_and_every_point() {
             });
         }
     }
-    assert_eq!(seen.len(), 13 + 11, "{seen:?}");
+    assert_eq!(seen.len(), 15 + 11, "{seen:?}");
 }

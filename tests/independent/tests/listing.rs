@@ -1,8 +1,9 @@
 //! The listing of 01 byte for byte, and what bad and empty files print.
 
 use independent::generate::edges::listing_of_01;
-use independent::grid::{Grid, Settings};
+use independent::grid::Settings;
 use independent::listing::listing;
+use independent::rules::Grid;
 use independent::schedule::{file_of, Event, Kind};
 
 const LISTING: &str = "\
@@ -21,7 +22,7 @@ grid 1 2 2
 11 turn 1 seeks
 12 turn 1 holds 0
 13 free 0 freed 2
-14 turn 0 refused 6
+14 turn 0 refused 15
 15 free 1 freed 0
 end 0 2 6
 ";

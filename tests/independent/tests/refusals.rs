@@ -1,8 +1,9 @@
 //! The refusals of the calls, in their order, and what they leave as it was.
 
 use independent::calls::{ask, release, setup, turn, Answer, Memory};
-use independent::grid::{Direction, Grid, Identifier, Place, Point, Record, Settings};
+use independent::grid::{Direction, Identifier, Place, Point, Record, Settings};
 use independent::refusal::{Refusal, Row};
+use independent::rules::Grid;
 
 type Call = fn(Settings, u32, &mut Memory) -> Result<Answer, Refusal>;
 
@@ -61,24 +62,34 @@ fn each_row_may_be_short() {
     }
 }
 
+/// The numbers of ask, turn and release, 0 where the call is accepted; a refused one changes nothing.
+fn numbers(settings: Settings, id: u32, memory: &Memory) -> [u8; 3] {
+    CALLS.map(|call| {
+        let mut after = memory.clone();
+        let answer = call(settings, id, &mut after);
+        assert!(answer.is_ok() || after == *memory);
+        answer.map_or_else(Refusal::number, |_| 0)
+    })
+}
+
+/// 02, P1: the state tells the number. With k out an ask of an idle task is 7, of another it is not;
+/// a one-time release is 5 in every state.
 #[test]
 fn moment_comes_before_count_and_after_mode() {
     let place = Place { r: 0, c: 0 };
-    let settings = Settings::new(0, 3, 2);
-    let mut memory = Memory::idle(&Grid, settings);
-    memory.records[0] = Record::Seeking(place, Point::WriteX);
-    memory.records[1] = Record::Holding(place);
-    let one = Identifier(1);
-    assert_eq!(ask(&Grid, settings, one, &mut memory), Err(Refusal::WrongMoment));
-    assert_eq!(ask(&Grid, settings, Identifier(2), &mut memory), Err(Refusal::TooManyOut));
-    assert_eq!(ask(&Grid, settings, Identifier(3), &mut memory), Err(Refusal::Identifier));
-    assert_eq!(turn(&Grid, settings, one, &mut memory), Err(Refusal::WrongMoment));
-    let released = release(&Grid, settings, Identifier(0), &mut memory);
-    assert_eq!(released, Err(Refusal::OneTimeRelease));
-    let settings = Settings::new(1, 3, 2);
-    let mut memory = Memory { records: memory.records, ..Memory::idle(&Grid, settings) };
-    let released = release(&Grid, settings, Identifier(0), &mut memory);
-    assert_eq!(released, Err(Refusal::WrongMoment));
+    for (mode, [of_idle, of_seeking, of_holding]) in [(0, [5, 5, 5]), (1, [15, 16, 0])] {
+        let settings = Settings::new(mode, 3, 2);
+        let mut memory = Memory::idle(&Grid, settings);
+        memory.records[0] = Record::Seeking(place, Point::WriteX);
+        assert_eq!(numbers(settings, 1, &memory), [0, 15, of_idle]);
+        memory.records[1] = Record::Holding(place);
+        assert_eq!(numbers(settings, 0, &memory), [16, 0, of_seeking]);
+        assert_eq!(numbers(settings, 1, &memory), [17, 17, of_holding]);
+        assert_eq!(numbers(settings, 2, &memory), [7, 15, of_idle]);
+        assert_eq!(numbers(settings, 3, &memory), [4; 3]);
+        memory.records[2] = Record::Holding(place);
+        assert_eq!(numbers(settings, 2, &memory), [17, 17, of_holding]);
+    }
 }
 
 #[test]

@@ -1,11 +1,12 @@
 //! 01, "Shortcuts that look right": the stories it tells, under the shortcut and under the grid.
 
 use independent::calls::Answer;
-use independent::grid::{Grid, Rules, Settings};
+use independent::grid::Settings;
 use independent::history::History;
 use independent::refusal::Refusal;
+use independent::rules::{Grid, Rules};
 use independent::schedule::{Event, Kind};
-use independent::shortcuts::{
+use independent::variants::shortcuts::{
     BlockNames, ClearEveryMark, CountHolders, ScanAtOnce, SharedMark, TestXFirst,
 };
 

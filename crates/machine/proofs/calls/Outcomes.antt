@@ -2,10 +2,10 @@
 use mathlib.Core.{Path.{_≡_, refl, sym, subst}, Bool.{Bool, true, false}, List.{[], _∷_}}
 use borrow.Author.Tests.{lt-leb, leb-false}
 use Rattle.machine.specs.{Memory.{Memory, stateOf, outOf}, Answers.isAccepted}
-use Rattle.machine.specs.Refusals.{first, when, noSuchTask, oneTimeRelease, wrongMoment, tooManyOut}
+use Rattle.machine.specs.Refusals.{first, when, noSuchTask, oneTimeRelease, wrongMoment, moment, tooManyOut}
 use Rattle.machine.specs.Calls.{Outcome, refuseOr, call}
 use Rattle.machine.specs.declared.{Settings.Settings, Event.Event}
-use Rattle.machine.specs.declared.Refusal.{Refusal, the-variants.{NoSuchTask, OneTime, WrongMoment, TooManyOut}}
+use Rattle.machine.specs.declared.Refusal.{Refusal, the-variants.{NoSuchTask, OneTime, TooManyOut}}
 use Rattle.machine.specs.declared.{Verdict.Verdict, Answer.Answer}
 use Rattle.machine.specs.promises.Ranges.{WithinLimits}
 use Rattle.machine.proofs.refusals.{Passed.{Fit, May, fit-verdict}, Refusing.{ruled, ruled-accepted}}
@@ -19,10 +19,12 @@ pub data Called (s : Settings) (event : Event) (m : Memory) : Outcome → Type 0
   refused : (why : Refusal) → Called s event m (record { answer = Answer.Refused why; memory = m })
 
 module _ (s : Settings) (l : WithinLimits s) (event : Event) (m : Memory) (fit : Fit s m) where
-  -- tests 4 to 7
+  -- the tests of the task
   abbrev lastTests : Bool → Bool → Bool → Bool → Verdict
-  lastTests task once moment out = first (when task NoSuchTask ∷ when once OneTime ∷ when moment WrongMoment ∷ when
-      out TooManyOut ∷ [])
+  lastTests task once wrong out =
+      first
+      (when task NoSuchTask ∷ when once OneTime ∷ when wrong (moment (stateOf m (event .task .0)))
+      ∷ when out TooManyOut ∷ [])
 
   pub called : Called s event m (call s event m)
   called =
@@ -31,13 +33,13 @@ module _ (s : Settings) (l : WithinLimits s) (event : Event) (m : Memory) (fit :
       (wrongMoment (event .kind) (stateOf m (event .task .0)))
       (tooManyOut s (event .kind) (outOf s (m .records))) refl refl refl refl)
     where
-      go : (task once moment out : Bool) → noSuchTask s (event .task .0) ≡ task → oneTimeRelease s (event .kind) ≡ once
-          → wrongMoment (event .kind) (stateOf m (event .task .0)) ≡ moment
+      go : (task once wrong out : Bool) → noSuchTask s (event .task .0) ≡ task → oneTimeRelease s (event .kind) ≡ once
+          → wrongMoment (event .kind) (stateOf m (event .task .0)) ≡ wrong
           → tooManyOut s (event .kind) (outOf s (m .records)) ≡ out
-          → Called s event m (refuseOr (lastTests task once moment out) m (ruled s event m))
-      go true once moment out a b c d = refused NoSuchTask
-      go false true moment out a b c d = refused OneTime
-      go false false true out a b c d = refused WrongMoment
+          → Called s event m (refuseOr (lastTests task once wrong out) m (ruled s event m))
+      go true once wrong out a b c d = refused NoSuchTask
+      go false true wrong out a b c d = refused OneTime
+      go false false true out a b c d = refused (moment (stateOf m (event .task .0)))
       go false false false true a b c d = refused TooManyOut
       go false false false false a b c d =
           taken (record { known = leb-false (s .n) (event .task .0) a; lived = b; moment = c; room = d })

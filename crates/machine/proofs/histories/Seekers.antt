@@ -1,4 +1,4 @@
--- Demand 3, "No turn of a seeking task is refused": J0 has tests 1 to 3 pass, and 4 to 7 ask nothing more of the turn
+-- Demand 3, "No turn of a seeking task is refused": J0 has tests 1 to 3 pass, and those of the task ask nothing more of the turn
 -- of a task that seeks.
 use mathlib.Core.{Path.{_≡_, refl}, Bool.{false, not}, List.List}
 use Prim.Native.Nat.{ℕ, _<_}

@@ -1,36 +1,40 @@
 -- Tests against the lines of a table: where each test says whether its line holds, the number that is answered is that
 -- of the first line that holds.
-use mathlib.Core.{Path.{_≡_, refl, sym, ap, _∙_}, Logic.{inl, inr, _↔_}, Bool.{Bool, true, false, cond}}
-use mathlib.Core.List.{List, [], _∷_}
+use mathlib.Core.{Path.{_≡_, refl, sym, ap, _∙_}, Logic.{inl, inr, _↔_}, Bool.{Bool, true, false, not, _&&_, cond}}
+use mathlib.Core.List.{List, [], _∷_, _++_}
 use Prim.Native.Nat.{ℕ, zero, suc, _≤_}
 use native.Mathlib.Omega.{arith}
+use lib.Dec.{T, eqb, T-not}
 use Rattle.machine.specs.{Refusals.{Case, first}, Answers.{Said, refusalSaid, numberOf}}
 use Rattle.machine.specs.promises.Refusing.{Line, NoneHolds, FirstHolds, RefusedExactly, Numbered, NoOtherNumber}
 use Rattle.machine.specs.declared.Refusal.{Refusal}
 use Rattle.machine.specs.declared.Refusal.the-variants.{Limits, ShortRow, OutOfRange, NoSuchTask, OneTime}
-use Rattle.machine.specs.declared.Refusal.the-variants.{WrongMoment, TooManyOut, FileLength, Letters, Version}
-use Rattle.machine.specs.declared.Refusal.the-variants.{TooManyEvents, EventCode, NoEvent, ShortRoom}
+use Rattle.machine.specs.declared.Refusal.the-variants.{TaskIdle, TaskSeeks, TaskHolds, TooManyOut, FileLength, Letters}
+use Rattle.machine.specs.declared.Refusal.the-variants.{Version, TooManyEvents, EventCode, NoEvent, ShortRoom}
 use Rattle.machine.specs.declared.Verdict.{Verdict, the-variants.{Accepted, Refused}}
-use Rattle.counting.proofs.Tested.{Tested}
+use Rattle.counting.proofs.{Bools.{and-l, and-r}, Tested.{Tested, same}}
 
 -- ---- what refusals say
 
--- a refusal has a number, and nothing beside it unless that is 3
-pub refusal-says : (why : Refusal) → (1 ≤ numberOf why) × ((numberOf why ≡ 3 → ⊥) → refusalSaid why .values ≡ [])
-refusal-says Limits = (omega arith, λ other. refl)
-refusal-says ShortRow = (omega arith, λ other. refl)
-refusal-says (OutOfRange row index) = (omega arith, λ other. absurd (other refl))
-refusal-says NoSuchTask = (omega arith, λ other. refl)
-refusal-says OneTime = (omega arith, λ other. refl)
-refusal-says WrongMoment = (omega arith, λ other. refl)
-refusal-says TooManyOut = (omega arith, λ other. refl)
-refusal-says FileLength = (omega arith, λ other. refl)
-refusal-says Letters = (omega arith, λ other. refl)
-refusal-says Version = (omega arith, λ other. refl)
-refusal-says TooManyEvents = (omega arith, λ other. refl)
-refusal-says EventCode = (omega arith, λ other. refl)
-refusal-says NoEvent = (omega arith, λ other. refl)
-refusal-says ShortRoom = (omega arith, λ other. refl)
+-- a refusal has a number, nothing beside it unless that is 3, and it is not 6
+pub refusal-says : (why : Refusal)
+    → (1 ≤ numberOf why) × ((numberOf why ≡ 3 → ⊥) → refusalSaid why .values ≡ []) × (numberOf why ≡ 6 → ⊥)
+refusal-says Limits = (omega arith, λ other. refl, λ six. omega arith)
+refusal-says ShortRow = (omega arith, λ other. refl, λ six. omega arith)
+refusal-says (OutOfRange row index) = (omega arith, λ other. absurd (other refl), λ six. omega arith)
+refusal-says NoSuchTask = (omega arith, λ other. refl, λ six. omega arith)
+refusal-says OneTime = (omega arith, λ other. refl, λ six. omega arith)
+refusal-says TaskIdle = (omega arith, λ other. refl, λ six. omega arith)
+refusal-says TaskSeeks = (omega arith, λ other. refl, λ six. omega arith)
+refusal-says TaskHolds = (omega arith, λ other. refl, λ six. omega arith)
+refusal-says TooManyOut = (omega arith, λ other. refl, λ six. omega arith)
+refusal-says FileLength = (omega arith, λ other. refl, λ six. omega arith)
+refusal-says Letters = (omega arith, λ other. refl, λ six. omega arith)
+refusal-says Version = (omega arith, λ other. refl, λ six. omega arith)
+refusal-says TooManyEvents = (omega arith, λ other. refl, λ six. omega arith)
+refusal-says EventCode = (omega arith, λ other. refl, λ six. omega arith)
+refusal-says NoEvent = (omega arith, λ other. refl, λ six. omega arith)
+refusal-says ShortRoom = (omega arith, λ other. refl, λ six. omega arith)
 
 -- ---- tests and lines
 
@@ -119,6 +123,15 @@ module _ (answer : Verdict → Said) (none : answer Accepted .number ≡ 0)
   refusal-keeps after before keeps Accepted low = absurd (omega (arith, none))
   refusal-keeps after before keeps (Refused why) low = keeps why
 
+-- ---- cases in place of others
+
+-- where the cases that come last decide alike, so does the whole
+pub decide-alike : (earlier cases cases′ : List Case) → first cases ≡ first cases′
+    → first (earlier ++ cases) ≡ first (earlier ++ cases′)
+decide-alike [] cases cases′ same = same
+decide-alike (case ∷ earlier) cases cases′ same =
+    ap (cond (case .holds) (Refused (case .refusal))) (decide-alike earlier cases cases′ same)
+
 -- ---- no case holds
 
 abbrev pub NoCase : List Case → Type 0
@@ -135,6 +148,20 @@ no-case (case ∷ cases) e = go (case .holds) e (no-case cases)
     go false e later = (refl, later e)
 
 -- ---- no other number
+
+-- no line has this number
+abbrev notAmong : ℕ → List Line → Bool
+notAmong n [] = true
+notAmong n (line ∷ lines) = not (eqb (line .number) n) && notAmong n lines
+
+-- a line that is the first to hold has its number among them
+pub not-first : (n : ℕ) (lines : List Line) → T (notAmong n lines) → FirstHolds lines n → ⊥
+not-first n [] none h = h
+not-first n (line ∷ lines) none (inl (holds, e)) =
+    T-not (eqb (line .number) n) (and-l (not (eqb (line .number) n)) (notAmong n lines) none)
+    (same (line .number) n .shows e)
+not-first n (line ∷ lines) none (inr (fails, later)) =
+    not-first n lines (and-r (not (eqb (line .number) n)) (notAmong n lines) none) later
 
 first-numbered : (lines : List Line) (n : ℕ) → FirstHolds lines n → Numbered lines n
 first-numbered [] n h = absurd h

@@ -1,21 +1,21 @@
 -- Each line of the table of numbers against the test that the definitions make for it.
-use mathlib.Core.{Path.{_≡_, refl}, Logic.{_⊎_, inl, inr, ⊎-elim, _↔_}, Bool.{Bool, false, not}}
+use mathlib.Core.{Path.{_≡_, refl}, Logic.{_⊎_, inl, inr, ⊎-elim, _↔_}, Bool.{Bool, false, not, _&&_}, List.{List, _∷_}}
 use Prim.Native.Nat.{ℕ, _+_, _≤_, _<_}
 use native.Mathlib.Omega.{arith}
 use lib.{Dec.{leb, ltb}, ListN.{length, getD}}
 use Rattle.machine.specs.{Settings.width, Places.blocks}
 use Rattle.machine.specs.Records.{isIdle, isSeeking, isHolding, isOut, pointInRange, stateInRange, recordInRange}
 use Rattle.machine.specs.Memory.{Memory, marksNeeded, recordOf, stateOf, xInRange, markInRange, outOf}
-use Rattle.machine.specs.Refusals.{rowShort, oneTimeRelease, wrongMoment, tooManyOut}
+use Rattle.machine.specs.Refusals.{Case, when, first, rowShort, oneTimeRelease, wrongMoment, moment, tooManyOut}
 use Rattle.machine.specs.promises.Ranges.{WithinLimits, NeedsMore, PointWithin, StateWithin, BadAt, seeksOrHolds}
-use Rattle.machine.specs.promises.Refusing.{SomeRowShort, NotTheMoment, tasksOut}
+use Rattle.machine.specs.promises.Refusing.{SomeRowShort, OfIdle, OfSeeking, OfHolding, tasksOut}
 use Rattle.machine.specs.declared.Settings.{Settings}
 use Rattle.machine.specs.declared.Point.{Point, the-variants.{WriteX, Scan, WriteMark, ReadX, Clear}}
 use Rattle.machine.specs.declared.State.{State, the-variants.{Idle, Seeking, Holding}}
 use Rattle.machine.specs.declared.Kind.{Kind, the-variants.{Ask, Turn, Release}}
-use Rattle.machine.specs.declared.Row.{Row, the-variants.{Records, Xs, Marks}}
+use Rattle.machine.specs.declared.{Row.{Row, the-variants.{Records, Xs, Marks}}, Refusal.the-variants.{TaskIdle, TaskSeeks, TaskHolds}}
 use Rattle.grid.specs.Triangle.{half}
-use Rattle.counting.proofs.Tested.{Tested, below, most, same, both, either, fails, meaning, always, never}
+use Rattle.counting.proofs.Tested.{Tested, below, most, same, both, either, fails, meaning, always, never, misses}
 use Rattle.counting.proofs.Searching.{count-same}
 
 -- ---- 2: a lent row is shorter than needed
@@ -89,7 +89,7 @@ module _ (s : Settings) (l : WithinLimits s) where
   bad-line m Xs block = above (getD (m .xs) block 0) (s .n)
   bad-line m Marks index = above (getD (m .marks) index 0) 1
 
--- ---- 4 to 7: the task
+-- ---- 4, 5, 15 to 17, 7: the task
 
 -- two kinds that differ
 other-kind : {A : Type 0} (kind kind′ : Kind) → (kind ≡ kind′ → ⊥) → Tested false ((kind ≡ kind′) × A)
@@ -101,27 +101,67 @@ release-line s Ask = other-kind Ask Release (λ e. let z : _≡_ {A = ℕ} 0 1 =
 release-line s Turn = other-kind Turn Release (λ e. let z : _≡_ {A = ℕ} 0 1 = cc in omega arith)
 release-line s Release = meaning (same (s .mode) 0) (λ e. (refl, e), λ h. h .1)
 
--- 6
-idle-tested : (state : State) → Tested (isIdle state) (state ≡ Idle)
-idle-tested Idle = always refl
-idle-tested (Seeking r c point) = never (λ e. let z : _≡_ {A = ℕ} 0 1 = cc in omega arith)
-idle-tested (Holding r c) = never (λ e. let z : _≡_ {A = ℕ} 0 1 = cc in omega arith)
+-- 15 to 17: each state with the two calls that it is no moment for
+not-ask : (kind : Kind) → Tested (wrongMoment kind Idle) ((kind ≡ Turn) ⊎ (kind ≡ Release))
+not-ask Ask = never (⊎-elim (λ e. let z : _≡_ {A = ℕ} 0 1 = cc in omega arith)
+    (λ e. let z : _≡_ {A = ℕ} 0 1 = cc in omega arith))
+not-ask Turn = always (inl refl)
+not-ask Release = always (inr refl)
 
-seeking-tested : (state : State) → Tested (not (isSeeking state))
-    ((r c : ℕ) (point : Point) → state ≡ Seeking r c point → ⊥)
-seeking-tested Idle = always (λ r c point e. let z : _≡_ {A = ℕ} 0 1 = cc in omega arith)
-seeking-tested (Seeking r c point) = never (λ none. none r c point refl)
-seeking-tested (Holding r c) = always (λ r c point e. let z : _≡_ {A = ℕ} 0 1 = cc in omega arith)
+not-turn : (kind : Kind) (r c : ℕ) (point : Point)
+    → Tested (wrongMoment kind (Seeking r c point)) ((kind ≡ Ask) ⊎ (kind ≡ Release))
+not-turn Ask r c point = always (inl refl)
+not-turn Turn r c point = never (⊎-elim (λ e. let z : _≡_ {A = ℕ} 0 1 = cc in omega arith)
+    (λ e. let z : _≡_ {A = ℕ} 0 1 = cc in omega arith))
+not-turn Release r c point = always (inr refl)
 
-holding-tested : (state : State) → Tested (not (isHolding state)) ((r c : ℕ) → state ≡ Holding r c → ⊥)
-holding-tested Idle = always (λ r c e. let z : _≡_ {A = ℕ} 0 1 = cc in omega arith)
-holding-tested (Seeking r c point) = always (λ r c e. let z : _≡_ {A = ℕ} 0 1 = cc in omega arith)
-holding-tested (Holding r c) = never (λ none. none r c refl)
+not-release : (kind : Kind) (r c : ℕ) → Tested (wrongMoment kind (Holding r c)) ((kind ≡ Ask) ⊎ (kind ≡ Turn))
+not-release Ask r c = always (inl refl)
+not-release Turn r c = always (inr refl)
+not-release Release r c = never (⊎-elim (λ e. let z : _≡_ {A = ℕ} 0 1 = cc in omega arith)
+    (λ e. let z : _≡_ {A = ℕ} 0 1 = cc in omega arith))
 
-pub moment-line : (kind : Kind) (state : State) → Tested (wrongMoment kind state) (NotTheMoment kind state)
-moment-line Ask state = fails (idle-tested state)
-moment-line Turn state = seeking-tested state
-moment-line Release state = holding-tested state
+pub idle-line : (kind : Kind) (state : State) → Tested (isIdle state && wrongMoment kind state) (OfIdle kind state)
+idle-line kind Idle = meaning (not-ask kind) (λ calls. (calls, refl), λ h. h .0)
+idle-line kind (Seeking r c point) = never (λ (calls, e). let z : _≡_ {A = ℕ} 0 1 = cc in omega arith)
+idle-line kind (Holding r c) = never (λ (calls, e). let z : _≡_ {A = ℕ} 0 1 = cc in omega arith)
+
+pub seeking-line : (kind : Kind) (state : State)
+    → Tested (isSeeking state && wrongMoment kind state) (OfSeeking kind state)
+seeking-line kind Idle = never (λ (calls, (r, c, point, e)). let z : _≡_ {A = ℕ} 0 1 = cc in omega arith)
+seeking-line kind (Seeking r c point) =
+    meaning (not-turn kind r c point) (λ calls. (calls, (r, c, point, refl)), λ h. h .0)
+seeking-line kind (Holding r c) =
+    never (λ (calls, (r, c, point, e)). let z : _≡_ {A = ℕ} 0 1 = cc in omega arith)
+
+pub holding-line : (kind : Kind) (state : State)
+    → Tested (isHolding state && wrongMoment kind state) (OfHolding kind state)
+holding-line kind Idle = never (λ (calls, (r, c, e)). let z : _≡_ {A = ℕ} 0 1 = cc in omega arith)
+holding-line kind (Seeking r c point) = never (λ (calls, (r, c, e)). let z : _≡_ {A = ℕ} 0 1 = cc in omega arith)
+holding-line kind (Holding r c) = meaning (not-release kind r c) (λ calls. (calls, (r, c, refl)), λ h. h .0)
+
+-- where none of the three holds the moment is right
+pub right-moment : (kind : Kind) (state : State) → (OfIdle kind state → ⊥) → (OfSeeking kind state → ⊥)
+    → (OfHolding kind state → ⊥) → wrongMoment kind state ≡ false
+right-moment kind Idle idle seeking holding = misses (not-ask kind) (λ calls. idle (calls, refl))
+right-moment kind (Seeking r c point) idle seeking holding =
+    misses (not-turn kind r c point) (λ calls. seeking (calls, (r, c, point, refl)))
+right-moment kind (Holding r c) idle seeking holding =
+    misses (not-release kind r c) (λ calls. holding (calls, (r, c, refl)))
+
+-- the one case of the definitions, as three
+abbrev pub momentCases : Kind → State → List Case → List Case
+momentCases kind state rest =
+    when (isIdle state && wrongMoment kind state) TaskIdle
+    ∷ when (isSeeking state && wrongMoment kind state) TaskSeeks
+    ∷ when (isHolding state && wrongMoment kind state) TaskHolds
+    ∷ rest
+
+pub moment-as-three : (kind : Kind) (state : State) (rest : List Case)
+    → first (when (wrongMoment kind state) (moment state) ∷ rest) ≡ first (momentCases kind state rest)
+moment-as-three kind Idle rest = refl
+moment-as-three kind (Seeking r c point) rest = refl
+moment-as-three kind (Holding r c) rest = refl
 
 -- 7
 out-same : (state : State) → isOut state ≡ seeksOrHolds state

@@ -31,7 +31,7 @@ pub record Fit (s : Settings) (m : Memory) : Type 0 where
   pub long : Long s (length (m .records)) m
   pub in-range : InRange s m
 
--- the task may: no test of 4 to 7 refuses the call
+-- the task may: no test of 4, 5, 15 to 17, 7 refuses the call
 pub record May (s : Settings) (event : Event) (m : Memory) : Type 0 where
   pub known : event .task .0 < s .n
   pub lived : oneTimeRelease s (event .kind) ≡ false
@@ -60,7 +60,7 @@ none-short-long s count m e =
     let marks : length (m .marks) < marksNeeded s → ⊥ = λ l. none (short-tested s count m .shows (inr (inr l))) in
     record { records = omega arith; xs = omega arith; marks = omega arith }
 
--- ---- a fit memory leaves 4 to 7
+-- ---- a fit memory leaves the tests of the task
 
 none-short : (s : Settings) (m : Memory) → Fit s m → rowShort s (length (m .records)) m ≡ false
 none-short s m fit =

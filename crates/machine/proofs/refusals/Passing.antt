@@ -9,7 +9,7 @@ use Rattle.machine.specs.declared.{Settings.Settings, Event.Event, Row.{
 use Rattle.machine.specs.declared.Verdict.{Verdict}
 use Rattle.machine.specs.promises.Ranges.{WithinLimits, SomeOutOfRange}
 use Rattle.machine.specs.promises.{Refusing.{NoneHolds, SomeRowShort, callLines}, OneAccess.AcceptedIn}
-use Rattle.machine.proofs.refusals.Lines.{neededOf, inRangeAt, needs-line, bad-line, release-line, moment-line}
+use Rattle.machine.proofs.refusals.Lines.{neededOf, inRangeAt, needs-line, bad-line, release-line, right-moment}
 use Rattle.machine.proofs.refusals.Lines.{out-line}
 use Rattle.machine.proofs.refusals.{Refusing.{accepted-zero, ruled, within, call-refused}, Passed.{Fit, Passed}}
 use Rattle.counting.proofs.Tested.{misses}
@@ -41,7 +41,8 @@ meets-none s event m t = call-refused s event m .exactly .accepted .0 (accepted-
 
 pub passed : (s : Settings) (event : Event) (m : Memory) → AcceptedIn s event m → Passed s event m
 passed s event m t =
-    let (fair, (long, (records, (xs, (marks, (known, (lived, (moment, (room, last))))))))) = meets-none s event m t in
+    let (fair, (long, (records, (xs, (marks, (known, (lived, (idle, (seeking, (holding, (room, last))))))))))) =
+    meets-none s event m t in
     let l = within s fair in
     record {
       limits = l;
@@ -49,7 +50,7 @@ passed s event m t =
       may = record {
         known = omega arith;
         lived = misses (release-line s (event .kind)) lived;
-        moment = misses (moment-line (event .kind) (stateOf m (event .task .0))) moment;
+        moment = right-moment (event .kind) (stateOf m (event .task .0)) idle seeking holding;
         room = misses (out-line s (event .kind) m) room;
       };
     }

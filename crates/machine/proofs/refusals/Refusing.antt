@@ -1,12 +1,12 @@
 -- Each number of refusal is answered exactly when its line is the first that holds, 3 tells the first bad value, and a
 -- refusal changes nothing.
-use mathlib.Core.{Path.{_≡_, refl}, Logic.{inl, inr, _↔_}, Bool.false, List.{List, []}}
+use mathlib.Core.{Path.{_≡_, refl, sym, subst}, Logic.{inl, inr, _↔_}, Bool.false, List.{List, [], _∷_, _++_}}
 use Prim.Native.Nat.{ℕ, _≤_}
 use native.Mathlib.Omega.{arith}
 use lib.{Dec.T, ListN.length}
 use Rattle.machine.specs.Memory.{Memory, stateOf, viewOf}
-use Rattle.machine.specs.Refusals.{Case, first, lentCases, rangeCases, taskCases, outsideLimits, rowShort}
-use Rattle.machine.specs.Refusals.{setupVerdict}
+use Rattle.machine.specs.Refusals.{Case, when, first, lentCases, rangeCases, taskCases, outsideLimits, rowShort}
+use Rattle.machine.specs.Refusals.{noSuchTask, oneTimeRelease, wrongMoment, moment, tooManyOut, setupVerdict}
 use Rattle.machine.specs.Answers.{said, isAccepted}
 use Rattle.machine.specs.Calls.{Outcome, answerOf, nextState, accept, refuseOr, verdictOf, cleared}
 use Rattle.machine.specs.promises.Ranges.{WithinLimits}
@@ -16,12 +16,14 @@ use Rattle.machine.specs.promises.Refusing.{callSays, setupSays, CallRef
 use Rattle.machine.specs.declared.{Settings.Settings, State.{State, the-variants.{Idle, Seeking, Holding}}}
 use Rattle.machine.specs.declared.{Kind.{Kind, the-variants.{Ask, Turn, Release}}, Event.Event}
 use Rattle.machine.specs.declared.{Row.the-variants.{Records, Xs, Marks}, View.View, Verdict.Verdict}
+use Rattle.machine.specs.declared.Refusal.the-variants.{NoSuchTask, OneTime, TooManyOut}
 use Rattle.machine.specs.declared.Answer.{Answer, the-variants.{Done, Seeks, Holds, Freed, Refused}}
 use Rattle.counting.proofs.Tested.{most, fails, passes, misses, cannot-fail}
 use Rattle.machine.proofs.refusals.Limits.{limits-tested}
-use Rattle.machine.proofs.refusals.Lines.{short-line, release-line, moment-line, out-line}
+use Rattle.machine.proofs.refusals.Lines.{short-line, release-line, idle-line, seeking-line, holding-line, out-line}
+use Rattle.machine.proofs.refusals.Lines.{momentCases, moment-as-three}
 use Rattle.machine.proofs.refusals.BadValue.{found-line, first-found}
-use Rattle.machine.proofs.refusals.Deciding.{refusal-says, Are, refused-exactly, refusal-keeps}
+use Rattle.machine.proofs.refusals.Deciding.{refusal-says, decide-alike, not-first, Are, refused-exactly, refusal-keeps}
 
 -- ---- what answers say
 
@@ -76,6 +78,9 @@ module _ (s : Settings) (event : Event) (m : Memory) where
   abbrev seen : View
   seen = viewOf s (m .records) (event .task .0)
 
+  abbrev own : State
+  own = stateOf m (event .task .0)
+
   -- 3
   range-are : (l : WithinLimits s) (cases : List Case) (lines : List Line) → Are cases lines
       → Are (rangeCases s seen m cases) (rangeLines s m lines)
@@ -87,34 +92,56 @@ module _ (s : Settings) (event : Event) (m : Memory) where
     ),
   )
 
-  -- 4 to 7
-  task-are : Are (taskCases s (event .kind) (event .task .0) seen) (taskLines s event m)
+  -- 4, 5 and 7; between them 15 to 17 one by one
+  abbrev earlier : List Case
+  earlier = when (noSuchTask s (event .task .0)) NoSuchTask ∷ when (oneTimeRelease s (event .kind)) OneTime ∷ []
+
+  abbrev later : List Case
+  later = when (tooManyOut s (event .kind) (seen .out)) TooManyOut ∷ []
+
+  abbrev eachCase : List Case
+  eachCase = earlier ++ momentCases (event .kind) own later
+
+  task-are : Are eachCase (taskLines s event m)
   task-are = (
     record { numbered = refl; tested = most (s .n) (event .task .0) },
     λ known. (
       record { numbered = refl; tested = release-line s (event .kind) },
       λ lived. (
-        record { numbered = refl; tested = moment-line (event .kind) (stateOf m (event .task .0)) },
-        λ moment. (record { numbered = refl; tested = out-line s (event .kind) m }, λ room. tt),
+        record { numbered = refl; tested = idle-line (event .kind) own },
+        λ idle. (
+          record { numbered = refl; tested = seeking-line (event .kind) own },
+          λ seeking. (
+            record { numbered = refl; tested = holding-line (event .kind) own },
+            λ holding. (record { numbered = refl; tested = out-line s (event .kind) m }, λ room. tt),
+          ),
+        ),
       ),
     ),
   )
 
+  call-are : Are (lentCases s seen m (rangeCases s seen m eachCase)) (callLines s event m)
+  call-are = lent-are s (event .task .0) m (rangeCases s seen m eachCase) (rangeLines s m (taskLines s event m))
+      (λ l. range-are l eachCase (taskLines s event m) task-are)
+
+  -- the definitions' tests of the task are these, in this order
   abbrev ownCases : List Case
   ownCases = taskCases s (event .kind) (event .task .0) seen
 
-  abbrev heldCases : List Case
-  heldCases = rangeCases s seen m ownCases
+  task-each : first ownCases ≡ first eachCase
+  task-each = decide-alike earlier (when (wrongMoment (event .kind) own) (moment own) ∷ later)
+      (momentCases (event .kind) own later) (moment-as-three (event .kind) own later)
 
-  call-are : Are (lentCases s seen m heldCases) (callLines s event m)
-  call-are = lent-are s (event .task .0) m heldCases (rangeLines s m (taskLines s event m))
-      (λ l. range-are l ownCases (taskLines s event m) task-are)
+  verdict-each : verdictOf s event m ≡ first (lentCases s seen m (rangeCases s seen m eachCase))
+  verdict-each = decide-alike (lentCases s seen m (rangeCases s seen m [])) ownCases eachCase task-each
 
   call-exactly : RefusedExactly (callSays s event m) (callLines s event m)
   call-exactly =
-      refused-exactly (λ v. said (refuseOr v m (ruled s event m) .answer))
+      subst (λ v. RefusedExactly (said (refuseOr v m (ruled s event m) .answer)) (callLines s event m))
+      (sym verdict-each)
+      (refused-exactly (λ v. said (refuseOr v m (ruled s event m) .answer))
       (accepted-zero (ruled s event m .answer) .0 (ruled-accepted s event m)) (λ why. refl)
-      (lentCases s seen m heldCases) (callLines s event m) call-are
+      (lentCases s seen m (rangeCases s seen m eachCase)) (callLines s event m) call-are)
 
   -- ---- 3 tells the first bad value
 
@@ -133,7 +160,7 @@ module _ (s : Settings) (event : Event) (m : Memory) where
       whole = misses (short-line s l m) long
 
       go : FirstHolds (rangeLines s m (taskLines s event m)) 3
-          → TellsFirstBad s m (said (refuseOr (first heldCases) m (ruled s event m) .answer) .values)
+          → TellsFirstBad s m (said (refuseOr (first (rangeCases s seen m ownCases)) m (ruled s event m) .answer) .values)
       go (inl (bad, e)) = rw (passes (found-line s l m Records) bad)
           (in-records (first-found s l m Records (found-line s l m Records .shows bad)))
       go (inr (records, inl (bad, e))) =
@@ -146,12 +173,7 @@ module _ (s : Settings) (event : Event) (m : Memory) where
             passes (found-line s l m Marks) bad,
           )
           (in-marks records xs (first-found s l m Marks (found-line s l m Marks .shows bad)))
-      go (inr (records, inr (xs, inr (marks, inl (four, e))))) = absurd (omega arith)
-      go (inr (records, inr (xs, inr (marks, inr (known, inl (five, e)))))) = absurd (omega arith)
-      go (inr (records, inr (xs, inr (marks, inr (known, inr (lived, inl (six, e))))))) = absurd (omega arith)
-      go (inr (records, inr (xs, inr (marks, inr (known, inr (lived, inr (moment, inl (seven, e)))))))) =
-          absurd (omega arith)
-      go (inr (records, inr (xs, inr (marks, inr (known, inr (lived, inr (moment, inr (room, none)))))))) = absurd none
+      go (inr (records, inr (xs, inr (marks, task)))) = absurd (not-first 3 (taskLines s event m) tt task)
 
   pub call-refused : CallRefused s event m
   call-refused = record {
@@ -172,6 +194,7 @@ refusal-exact = record {
   setups = setup-exactly;
   acceptance = accepted-zero;
   numbered = λ why. refl;
+  six-retired = λ why. refusal-says why .2;
 }
 
 -- ---- a refusal changes nothing

@@ -56,11 +56,16 @@ SomeRowShort s m =
     NeedsMore s Records (length (m .records))
     ⊎ (NeedsMore s Xs (length (m .xs)) ⊎ NeedsMore s Marks (length (m .marks)))
 
--- 6: ask when not idle; turn when not seeking; release when not holding
-abbrev pub NotTheMoment : Kind → State → Type 0
-NotTheMoment Ask state = state ≡ Idle → ⊥
-NotTheMoment Turn state = (r c : ℕ) (point : Point) → state ≡ Seeking r c point → ⊥
-NotTheMoment Release state = (r c : ℕ) → state ≡ Holding r c → ⊥
+-- 02, P1: "15, turn or release of an idle task; 16, ask or release of a seeking one; 17, ask or turn of a holding one"
+abbrev pub OfIdle : Kind → State → Type 0
+OfIdle kind state = ((kind ≡ Turn) ⊎ (kind ≡ Release)) × (state ≡ Idle)
+
+abbrev pub OfSeeking : Kind → State → Type 0
+OfSeeking kind state =
+    ((kind ≡ Ask) ⊎ (kind ≡ Release)) × ((r : ℕ) × (c : ℕ) × (point : Point) × (state ≡ Seeking r c point))
+
+abbrev pub OfHolding : Kind → State → Type 0
+OfHolding kind state = ((kind ≡ Ask) ⊎ (kind ≡ Turn)) × ((r : ℕ) × (c : ℕ) × (state ≡ Holding r c))
 
 -- 7: how many tasks are out, "seekers and holders counted from the records"
 abbrev pub tasksOut : Settings → Memory → ℕ
@@ -81,16 +86,18 @@ rangeLines s m rest =
     ∷ line 3 (SomeOutOfRange s m Marks)
     ∷ rest
 
--- 4 to 7: the task
+-- 4, 5, 15 to 17 "all at 6's place in the order", 7: the task
 abbrev pub taskLines : Settings → Event → Memory → List Line
 taskLines s event m =
     line 4 (s .n ≤ event .task .0)  -- identifier ≥ N
     ∷ line 5 ((event .kind ≡ Release) × (s .mode ≡ 0))  -- release in mode 0
-    ∷ line 6 (NotTheMoment (event .kind) (stateOf m (event .task .0)))  -- ask when not idle; turn when not seeking; ..
+    ∷ line 15 (OfIdle (event .kind) (stateOf m (event .task .0)))  -- turn or release of an idle task
+    ∷ line 16 (OfSeeking (event .kind) (stateOf m (event .task .0)))  -- ask or release of a seeking one
+    ∷ line 17 (OfHolding (event .kind) (stateOf m (event .task .0)))  -- ask or turn of a holding one
     ∷ line 7 ((event .kind ≡ Ask) × (s .k ≤ tasksOut s m))  -- ask when k or more tasks are out
     ∷ []
 
--- "Setup tests 1, 2; the other calls 1 to 7 ascending."
+-- "Setup tests 1, 2; the other calls 1 to 7 ascending", with 15 to 17 for 6
 abbrev pub setupLines : Settings → Memory → List Line
 setupLines s m = lentLines s m []
 
@@ -136,6 +143,8 @@ pub record RefusalExact : Type 0 where
   -- answer has
   pub acceptance : (answer : Answer) → T (isAccepted answer) ↔ (said answer .number ≡ 0)
   pub numbered : (why : Refusal) → numberOf why ≡ said (Answer.Refused why) .number
+  -- "retire 6": no refusal has this number, so no answer of any call, of opening, of a reader or of a writer
+  pub six-retired : (why : Refusal) → numberOf why ≡ 6 → ⊥
 
 -- ---- "A refusal changes no lent element"
 

@@ -1,4 +1,4 @@
--- `task_verdict` is the definition's: 4, 5, 6, 7, the first that holds.
+-- `task_verdict` is the definition's: 4, 5, one of 15 to 17, 7, the first that holds.
 use mathlib.Core.{Path.{_≡_, _∙_, sym}, Bool.{Bool, true, false}}
 use borrow.Author.Tests.{lt-leb}
 use Rattle.machine.{specs.Refusals.{noSuchTask, oneTimeRelease, wrongMoment, tooManyOut}, proofs.Tests.tests}
@@ -38,10 +38,10 @@ returns-2 c =
 
 returns-3 : tie.Need-returns-3
 returns-3 c =
-    let at = c .before .before .before in
+    let at = c .before .before .before .before in
     let yes : wrong (at .before .before .before .before .before) ≡ true =
-    sym (c .before .wrong-moment .ensures) ∙ c .if3 .taken in
-    rw (is-known (at .before .before), is-free at, yes)
+    sym (c .before .before .wrong-moment .ensures) ∙ c .before .if3 .taken in
+    rw (is-known (at .before .before), is-free at, yes, c .moment .ensures)
 
 returns-4 : tie.Need-returns-4
 returns-4 c =
@@ -64,6 +64,7 @@ task-verdict-spec =
     (λ c. search tests)
     (λ c κs. search tests)
     returns-2
+    (λ c κs. search tests)
     (λ c κs. search tests)
     returns-3
     (λ c κs. search tests)

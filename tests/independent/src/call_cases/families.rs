@@ -1,11 +1,12 @@
 //! The families of calls on memories in range, in rows of just the needed length: what each tries.
 
 use super::memories::{blocks, places};
-use super::{Call, CallCase, MOST_RECORDS};
+use super::{Call, CallCase};
 use crate::calls::Memory;
-use crate::grid::{x_of, Direction, Grid, Place, Point, Record, Rules, Settings};
+use crate::grid::{x_of, Direction, Place, Point, Record, Settings};
 use crate::random::Random;
 use crate::refusal::Row;
+use crate::rules::{Grid, Rules};
 
 pub struct Maker {
     pub random: Random,
@@ -34,13 +35,14 @@ impl Maker {
         self.cases.push(CallCase::new(&Grid, tries, settings, before.clone(), call));
     }
 
-    /// The families that settings in the limits have; some stand in `surplus` and `faults`.
+    /// The families that settings in the limits have; some stand in `moments`, `surplus` and `faults`.
     pub fn every_family(&mut self, settings: Settings) {
         self.points(settings);
         self.own_x(settings);
         self.own_marks(settings);
         self.holders(settings);
         self.edge_holders(settings);
+        self.moments(settings);
         self.asks(settings);
         self.many_out(settings);
         self.greatest_values(settings);
@@ -197,45 +199,6 @@ impl Maker {
             memory.records[usize::from(p)] = Record::Holding(place);
             memory.registers.marks.fill(1);
             self.push("edge holder", settings, &memory, Call::Release(p));
-        }
-    }
-
-    /// An ask with about k tasks out, seekers and holders, and with surplus records out.
-    pub fn asks(&mut self, settings: Settings) {
-        let k = settings.k();
-        for out in [0, k - 1, k, k + 1, settings.tasks()] {
-            let mut memory = self.random.memory(settings);
-            let mut tasks: Vec<usize> = (0..settings.tasks()).collect();
-            self.random.shuffle(&mut tasks);
-            for (order, task) in tasks.iter().enumerate() {
-                let idle = if order < out { 0 } else { 100 };
-                memory.records[*task] = self.random.record(settings, idle);
-            }
-            memory.records.extend([Record::Holding(Place { r: 0, c: 0 }); 2]);
-            memory.records.truncate(MOST_RECORDS);
-            for task in [tasks[0], tasks[tasks.len() - 1]] {
-                self.push("ask", settings, &memory, Call::Ask(task as u16));
-            }
-        }
-    }
-
-    /// A turn and a release with every task out, more than k: they are accepted.
-    fn many_out(&mut self, settings: Settings) {
-        if settings.tasks() <= settings.k() {
-            return;
-        }
-        for _ in 0..3 {
-            let p = self.random.task(settings);
-            for call in [Call::Turn(p), Call::Release(p)] {
-                let mut memory = self.random.memory(settings);
-                for record in &mut memory.records {
-                    *record = self.random.record(settings, 0);
-                }
-                if let Some(record) = self.ready(settings, call) {
-                    memory.records[usize::from(p)] = record;
-                    self.push("many out", settings, &memory, call);
-                }
-            }
         }
     }
 

@@ -6,8 +6,9 @@ use super::families::{all_calls, calls_of, Maker, ROWS};
 use super::memories::bad_records;
 use super::Call;
 use crate::calls::{Memory, Needed};
-use crate::grid::{Grid, Place, Record, Rules, Settings};
+use crate::grid::{Place, Record, Settings};
 use crate::refusal::Row;
+use crate::rules::{Grid, Rules};
 
 const BAD_RECORD: Record = Record::Holding(Place { r: 255, c: 255 });
 

@@ -1,8 +1,9 @@
 //! Arbitrary memories: values in range that no history need reach, and values out of range.
 
 use crate::calls::Memory;
-use crate::grid::{Direction, Grid, Place, Point, Record, Settings};
+use crate::grid::{Direction, Place, Point, Record, Settings};
 use crate::random::Random;
+use crate::rules::Grid;
 
 /// The places with r+c at most so much.
 pub fn places(diagonal: usize) -> Vec<Place> {

@@ -28,14 +28,16 @@ mod compare;
 mod families;
 mod faults;
 mod memories;
+mod moments;
 pub mod store;
 mod surplus;
 
 use std::fmt::Write;
 
 use crate::calls::{ask, release, setup, turn, Answer, Memory};
-use crate::grid::{Direction, Identifier, Point, Record, Rules, Settings};
+use crate::grid::{Direction, Identifier, Point, Record, Settings};
 use crate::refusal::Refusal;
+use crate::rules::Rules;
 
 pub use binary::{pack, unpack, MOST_BYTES};
 pub use compare::{inputs, run, Plan};

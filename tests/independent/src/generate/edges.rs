@@ -13,8 +13,12 @@ fn free(id: u16) -> Event {
     Event::new(Kind::Free, id)
 }
 
+fn turn(id: u16) -> Event {
+    Event::new(Kind::Turn, id)
+}
+
 fn turns(id: u16, count: usize) -> Vec<Event> {
-    vec![Event::new(Kind::Turn, id); count]
+    vec![turn(id); count]
 }
 
 /// The listing of 01: its sixteen events.
@@ -58,6 +62,28 @@ fn asks_beyond_k(settings: Settings) -> Case {
     Case::of_schedule(format!("edge asks beyond k, mode {mode} N {n} k {k}"), settings, &events)
 }
 
+/// Every kind of call by k tasks at every moment: idle, seeking with few and with k out, holding
+/// with k out, and idle again.
+fn moments(settings: Settings) -> Case {
+    let tasks = 0..u16::from(settings.k);
+    let mut events = Vec::new();
+    for id in tasks.clone() {
+        events.extend([free(id), turn(id), ask(id), ask(id), free(id)]);
+    }
+    for id in tasks.clone() {
+        events.extend([ask(id), free(id), turn(id), ask(id)]);
+    }
+    for id in tasks.clone() {
+        events.extend(turns(id, settings.bound()));
+        events.extend([ask(id), turn(id)]);
+    }
+    for id in tasks {
+        events.extend([free(id), free(id), turn(id)]);
+    }
+    let Settings { mode, n, k } = settings;
+    Case::of_schedule(format!("edge moments, mode {mode} N {n} k {k}"), settings, &events)
+}
+
 /// Identifiers on both sides of N, in every call, before and after a task is out.
 fn identifiers(settings: Settings) -> Case {
     let n = settings.n;
@@ -94,6 +120,9 @@ pub fn cases() -> Vec<Case> {
             let settings = Settings::new(mode, n, k);
             cases.push(asks_beyond_k(settings));
             cases.push(identifiers(settings));
+            if settings.k() * (settings.bound() + 14) <= MOST_EVENTS {
+                cases.push(moments(settings));
+            }
             if n > 1 && 2 * settings.bound() + 7 <= MOST_EVENTS {
                 cases.push(one_behind_another(settings, 0, 1));
                 cases.push(one_behind_another(settings, n - 1, 0));

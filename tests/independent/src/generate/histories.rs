@@ -5,8 +5,9 @@ use std::collections::BTreeSet;
 
 use super::interleavings::{Interleaving, Maker};
 use crate::calls::Needed;
-use crate::grid::{Grid, Settings};
+use crate::grid::Settings;
 use crate::random::Random;
+use crate::rules::Grid;
 use crate::schedule::{Event, MOST_EVENTS};
 
 pub struct Schedule {

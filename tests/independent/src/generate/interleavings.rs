@@ -1,8 +1,9 @@
 //! Interleavings that bring tasks together in one block, with releases, new asks and refused calls.
 
-use crate::grid::{Grid, Point, Record, Settings};
+use crate::grid::{Point, Record, Settings};
 use crate::history::History;
 use crate::random::Random;
+use crate::rules::Grid;
 use crate::schedule::{Event, Kind};
 
 /// Whose turn it is.

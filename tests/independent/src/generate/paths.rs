@@ -5,9 +5,10 @@
 //! last writer holds. To go right, one task holds first and the others find its mark.
 
 use super::Case;
-use crate::grid::{Direction, Grid, Point, Record};
+use crate::grid::{Direction, Point, Record};
 use crate::history::History;
 use crate::random::Random;
+use crate::rules::Grid;
 use crate::schedule::{Event, Kind, MOST_EVENTS};
 use crate::Settings;
 

@@ -1,9 +1,8 @@
-//! 01, "Shortcuts that look right": each runs in place of the grid and differs from it in one rule.
+//! 01, "Shortcuts that look right".
 
-use crate::grid::{
-    grid_turn, leave, moved, x_of, Direction, Grid, Name, Place, Point, Record, Registers, Rules,
-    Settings,
-};
+use super::Variant;
+use crate::grid::{x_of, Direction, Name, Place, Point, Record, Registers, Settings};
+use crate::rules::{grid_turn, leave, moved, Rules};
 
 /// One shared mark per block in mode 1. A task going right has not set it and leaves it alone.
 pub struct SharedMark;
@@ -117,7 +116,7 @@ impl Rules for BlockNames {
 }
 
 /// The shortcuts by name.
-pub const SHORTCUTS: [(&str, &dyn Rules); 6] = [
+pub const ALL: [Variant; 6] = [
     ("shared-mark", &SharedMark),
     ("clear-every-mark", &ClearEveryMark),
     ("count-holders", &CountHolders),
@@ -125,11 +124,3 @@ pub const SHORTCUTS: [(&str, &dyn Rules); 6] = [
     ("test-x-first", &TestXFirst),
     ("block-names", &BlockNames),
 ];
-
-/// The rules of that name: `grid`, or one of the shortcuts.
-pub fn rules_named(name: &str) -> Option<&'static dyn Rules> {
-    if name == "grid" {
-        return Some(&Grid);
-    }
-    SHORTCUTS.iter().find(|(of, _)| *of == name).map(|(_, rules)| *rules)
-}

@@ -1,0 +1,85 @@
+//! Misreadings of 02, P1: why the moment was wrong.
+
+use super::Variant;
+use crate::grid::{Record, Settings};
+use crate::refusal::Refusal;
+use crate::rules::{Grid, Rules};
+use crate::schedule::Kind;
+
+/// 6 is still answered.
+pub struct StillSix;
+
+impl Rules for StillSix {
+    fn wrong_moment(&self, _: Kind, _: Record) -> Refusal {
+        Refusal::WrongMoment
+    }
+}
+
+/// 15 for a seeking task, 16 for an idle one.
+pub struct IdleForSeeking;
+
+impl Rules for IdleForSeeking {
+    fn wrong_moment(&self, kind: Kind, record: Record) -> Refusal {
+        match Grid.wrong_moment(kind, record) {
+            Refusal::TaskIdle => Refusal::TaskSeeking,
+            Refusal::TaskSeeking => Refusal::TaskIdle,
+            refusal => refusal,
+        }
+    }
+}
+
+/// The number tells the call, not the task's state.
+pub struct NumberByCall;
+
+impl Rules for NumberByCall {
+    fn wrong_moment(&self, kind: Kind, _: Record) -> Refusal {
+        match kind {
+            Kind::Turn => Refusal::TaskIdle,
+            Kind::Free => Refusal::TaskSeeking,
+            Kind::Ask => Refusal::TaskHolding,
+        }
+    }
+}
+
+/// 16 for the ask of any task that is out; 17 is left to turns.
+pub struct AskOfHolder;
+
+impl Rules for AskOfHolder {
+    fn wrong_moment(&self, kind: Kind, record: Record) -> Refusal {
+        match kind {
+            Kind::Ask => Refusal::TaskSeeking,
+            _ => Grid.wrong_moment(kind, record),
+        }
+    }
+}
+
+/// 15 for every release that frees nothing.
+pub struct NothingToFree;
+
+impl Rules for NothingToFree {
+    fn wrong_moment(&self, kind: Kind, record: Record) -> Refusal {
+        match kind {
+            Kind::Free => Refusal::TaskIdle,
+            _ => Grid.wrong_moment(kind, record),
+        }
+    }
+}
+
+/// The numbers tested in ascending order: 16 and 17 after 7.
+pub struct RoomFirst;
+
+impl Rules for RoomFirst {
+    fn test_ask(&self, settings: Settings, tasks: &[Record], p: usize) -> Result<(), Refusal> {
+        self.test_room(settings, tasks)?;
+        self.test_idle(tasks[p])
+    }
+}
+
+pub const ALL: [Variant; 6] = [
+    ("still-six", &StillSix),
+    ("idle-for-seeking", &IdleForSeeking),
+    ("number-by-call", &NumberByCall),
+    ("ask-of-holder", &AskOfHolder),
+    ("nothing-to-free", &NothingToFree),
+    ("room-first", &RoomFirst),
+];
