@@ -6,3 +6,4 @@ pub mod Counting
 pub mod Searching
 pub mod Some
 pub mod Counted
+pub mod Lists

@@ -1,30 +1,27 @@
--- Laws of what a run counts: the holders, and each task's turns.
+-- Laws of what a run counts: the holders and who is out, and each task's turns.
 use mathlib.Core.{Path.{_≡_, refl, sym, ap, _∙_}, Bool.{Bool, true, false, cond}, List.List}
 use Prim.Native.Nat.{ℕ, zero, suc, _+_, _≤_, _<_}
 use native.Mathlib.{Numerals.add-one, Decide.{decLe, ℕ-discrete}, Omega.arith}
-use lib.ListN.{length, getD, set, replicate, length-replicate, getD-replicate, List·getD-eq-default}
+use lib.ListN.{length, getD, set, replicate}
 use lib.Seq.{set-out, getD-set-same, getD-set-other}
-use Rattle.machine.specs.{Records.{idle, isHolding}, Answers.isAccepted, Calls.call, History.counted}
+use Rattle.machine.specs.{Records.idle, Answers.isAccepted, Calls.call, History.counted}
 use Rattle.machine.specs.declared.{Settings.Settings, Record.Record, Kind.{Kind, the-variants.{Ask, Turn, Release}}}
 use Rattle.machine.specs.declared.{Event.Event, Answer.Answer}
-use Rattle.counting.specs.Counting.{tick, count}
+use Rattle.counting.{specs.Counting.{tick, count}, proofs.Lists.one-value}
 use Rattle.file.specs.File.{eventAt}
 use Rattle.printed.specs.Listing.{turnsAfter, progress}
+use Rattle.listing.specs.{declared.Who.Who, Counts.{counts, among}}
 
--- ---- holders
+-- ---- tasks
 
--- how many of the first n records hold
-abbrev pub holding : List Record → ℕ → ℕ
-holding records n = count (λ p. isHolding (getD records p idle .state)) n
-
-pub none-holding : (records : List Record) → holding records 0 ≡ 0
+pub none-among : (who : Who) (records : List Record) → among who records 0 ≡ 0
 unfolding count
-none-holding records = refl
+none-among who records = refl
 
-pub holding-more : (records : List Record) (i : ℕ)
-    → holding records (i + 1) ≡ tick (isHolding (getD records i idle .state)) (holding records i)
+pub among-more : (who : Who) (records : List Record) (i : ℕ)
+    → among who records (i + 1) ≡ tick (counts who (getD records i idle .state)) (among who records i)
 unfolding count
-holding-more records i = rw (add-one i)
+among-more who records i = rw (add-one i)
 
 pub tick-at-most : (yes : Bool) (n : ℕ) → tick yes n ≤ n + 1
 tick-at-most true n = omega arith
@@ -47,15 +44,6 @@ module _ (event : Event) (answer : Answer) (turns : List ℕ) where
   pub turns-past : isAccepted answer ≡ true → length turns ≤ event .task .0 → turns ≡ turnsAfter event answer turns
   turns-past e l = sym (set-out turns (event .task .0) (counted (event .kind) (getD turns (event .task .0) 0)) l)
       ∙ turns-counted e
-
--- nobody has taken a turn
-no-turns : (n p : ℕ) → _≡_ {A = ℕ} (getD (replicate n 0) p 0) 0
-no-turns n p = go (decLe (suc p) n)
-  where
-    go : Dec (p < n) → _≡_ {A = ℕ} (getD (replicate n 0) p 0) 0
-    go (yes l) = getD-replicate n p 0 0 l
-    go (no l) = let long = length-replicate {A = ℕ} n 0 in
-        List·getD-eq-default {A = ℕ} (replicate n 0) 0 {n = p} (omega arith)
 
 counted-at-most : (kind : Kind) (turns n : ℕ) → turns ≤ n → counted kind turns ≤ suc n
 counted-at-most Ask turns n l = omega arith
@@ -86,6 +74,6 @@ turns-after-at-most event answer turns n few p = go (isAccepted answer) refl
 
 -- after n events nobody has taken more than n turns
 pub turns-few : (s : Settings) (file : List ℕ) (n p : ℕ) → getD (progress s file n .turns) p 0 ≤ n
-turns-few s file zero p = let h = no-turns 256 p in omega arith
+turns-few s file zero p = let h : _≡_ {A = ℕ} (getD (replicate 256 0) p 0) 0 = one-value 256 p 0 in omega arith
 turns-few s file (suc n) p = turns-after-at-most (eventAt file n)
     (call s (eventAt file n) (progress s file n .memory) .answer) (progress s file n .turns) n (turns-few s file n) p

@@ -3,7 +3,7 @@ use mathlib.Core.{Path.{_≡_, refl, sym, ap, _∙_}, List.{List, _++_}}
 use Prim.Native.Nat.{ℕ, _+_, _*_, _≤_, _<_, max}
 use native.Mathlib.{Numerals.add-one, Omega.arith}
 use lib.ListN.{length, getD, replicate}
-use Rattle.machine.specs.{Records.idle, Memory.{Memory, largest}, Calls.{Outcome, call, setup}}
+use Rattle.machine.specs.{Records.idle, Memory.{Memory, outOf, largest}, Calls.{Outcome, call, setup}}
 use Rattle.machine.specs.{declared.{Settings.Settings, Event.Event}, Lent.lent}
 use Rattle.file.specs.File.{eventAt}
 use Rattle.printed.specs.Listing.{Progress, gridLine, eventLine, endLine, turnsAfter, completed, holdersOf, advanceBy}
@@ -33,7 +33,7 @@ module _ (s : Settings) (position : ℕ) (event : Event) (at : Standing) (m : Me
   -- what the call left, its line and the counts after it are one event more
   pub stands-advanced : left ≡ outcomeOf s (Call.Of event) m
       → to .turns ≡ turnsAfter event (left .answer) (at .turns)
-      → to .peak ≡ max (at .peak) (holdersOf s (left .memory .records))
+      → to .peak ≡ max (at .peak) (outOf s (left .memory .records))
       → to .most
       ≡ max (at .most) (completed (left .answer)
       (getD (turnsAfter event (left .answer) (at .turns)) (event .task .0) 0))

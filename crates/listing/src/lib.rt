@@ -27,9 +27,10 @@ ghost use Rattle.machine.specs.Answers.{numberOf, isAccepted};
 ghost use Rattle.machine.specs.History.{counted};
 ghost use Rattle.file.specs.File.{eventAt, opening, writtenOf};
 ghost use Rattle.text.specs.Decimal.{decimal, lineFeed};
-ghost use Rattle.printed.specs.Listing.{kindText, answerText, gridLine, eventLine, endLine, turnsAfter, completed, refusedLine, progress, ended, holdersOf};
+ghost use Rattle.printed.specs.Listing.{kindText, answerText, gridLine, eventLine, endLine, turnsAfter, completed, refusedLine, progress, ended};
 ghost use Rattle.machine.specs.Lent.{lent};
 ghost use Rattle.text.specs.Put.{Puts};
+ghost use Rattle.listing.specs.Counts.{counts, among};
 ghost use Rattle.listing.specs.Writes.{Writes};
 ghost use Rattle.listing.specs.Standing.{Begun, Advanced};
 ghost use Rattle.printed.specs.Listed.{listed};
@@ -42,6 +43,12 @@ struct Standing {
     peak: u16,
     most: u16,
     at: usize,
+}
+
+// Who is counted: the holders, or everyone out, seekers and holders together.
+enum Who {
+    Holders,
+    Out,
 }
 
 // ---- pieces of a line
@@ -150,17 +157,27 @@ fn ticked(yes: bool, n: u16) -> u16
     n
 }
 
-// How many of the N tasks hold.
-fn holders(s: Settings, records: [Record; 256]) -> u16
+// Whether a task counts.
+fn counts(who: Who, own: Record) -> bool
+    ensures { λ yes. ⌜ yes ≡ counts who (own .state) ⌝ }
+{
+    match who {
+        Who::Holders => records::is_holding(own),
+        Who::Out => records::is_out(own),
+    }
+}
+
+// How many of the N tasks hold, or are out.
+fn among(s: Settings, records: [Record; 256], who: Who) -> u16
     requires { ⌜ s .n ≤ 256 ⌝ }
-    ensures { λ n. ⌜ (n ≡ holdersOf s records) × (n ≤ 256) ⌝ }
+    ensures { λ n. ⌜ (n ≡ among who records (s .n)) × (n ≤ 256) ⌝ }
 {
     let count = s.n as usize;
     let mut n = 0;
     let mut i = 0;
     while i < count {
         let own = records[i];
-        n = ticked(records::is_holding(own), n);
+        n = ticked(counts(who, own), n);
         i += 1;
     }
     n
@@ -331,7 +348,7 @@ fn advance(
     Standing {
         records: records,
         turns: turns,
-        peak: larger(at.peak, holders(s, records)),
+        peak: larger(at.peak, among(s, records, Who::Out)),
         most: larger(at.most, used),
         at: put_event(room, at.at, position, event, answer),
     }
@@ -357,7 +374,7 @@ fn run(
         i += 1;
     }
     let records = standing.records;
-    let held = holders(s, records);
+    let held = among(s, records, Who::Holders);
     put_end(room, standing.at, held, standing.peak, standing.most)
 }
 

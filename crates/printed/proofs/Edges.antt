@@ -17,8 +17,9 @@ use Rattle.machine.proofs.refusals.Passed.{Fit, fit-verdict}
 use Rattle.machine.proofs.histories.Exact.{setup-takes-largest}
 use Rattle.machine.proofs.calls.Fresh.{setup-within, fresh-idle, fresh-none-out, fresh-fit}
 use Rattle.text.specs.Decimal.{decimal}
-use Rattle.printed.specs.Edges.{FiveNames, NoTurns, LoneTask, TheOtherTask, TheListing, TwoOut, LastIdentifier}
-use Rattle.printed.specs.Edges.{NoRelease, NoReleaseIdle, settings, Refuses, SetupsTaken, OutsideRefused, Edges}
+use Rattle.printed.specs.Edges.{FiveNames, NoTurns, LoneTask, TheOtherTask, TheListing, TwoAsks, TwoOut}
+use Rattle.printed.specs.Edges.{LastIdentifier, NoRelease, NoReleaseIdle, settings, Refuses, SetupsTaken}
+use Rattle.printed.specs.Edges.{OutsideRefused, Edges}
 use Rattle.printed.proofs.OneTimePair.{one-time-pair}
 
 five-names : FiveNames
@@ -36,6 +37,10 @@ the-other-task = (refl, refl)
 the-listing : TheListing
 unfolding half placeNumber count firstBad decimal
 the-listing = (refl, refl, refl)
+
+two-asks : TwoAsks
+unfolding half placeNumber count firstBad decimal
+two-asks = (refl, refl)
 
 two-out : TwoOut
 unfolding half placeNumber count firstBad
@@ -125,6 +130,7 @@ edges = record {
   the-other-task = the-other-task;
   one-time-pair = one-time-pair;
   the-listing = the-listing;
+  two-asks = two-asks;
   two-out = two-out;
   last-identifier = last-identifier;
   no-release = no-release;

@@ -3,26 +3,29 @@
 -- positions so far.
 use mathlib.Core.{Path.{_≡_, refl, sym, ap, _∙_}, Logic.{_⊎_, inl, inr}}
 use mathlib.Core.{Bool.{Bool, true, false, not, cond, _&&_, _||_}, List.{List, [], _∷_, _++_}}
-use Prim.Native.Nat.{ℕ, zero, suc, _≤_, _<_, max}
+use Prim.Native.Nat.{ℕ, zero, suc, _≤_, _<_, max, zero-le}
 use native.Mathlib.{Nat.{le-refl, max-zero}, Omega.arith}
-use lib.{Dec.{T, eqb, ltb, eqb→eq}, ListN.{length, getD, set, length-set, length-replicate, getD-replicate}}
+use lib.{Dec.{T, eqb, ltb, eqb→eq}, ListN.{length, getD, set, replicate, length-set, length-replicate, getD-replicate}}
 use lib.Seq.{getD-set-same, getD-set-other}
 use borrow.Author.Tests.{eqb-true, eqb-false, lt-ltb, le-ltb}
-use Rattle.machine.specs.{Records.isHolding, Memory.{Memory, stateOf, largest}, Answers.isAccepted}
-use Rattle.machine.specs.{Calls.{Outcome, nameAt, answerOf, call, setup}, History.{Answered, counted, turnsOf}}
+use Rattle.machine.specs.{Records.{idle, isHolding, isOut}, Memory.{Memory, stateOf, outOf, viewOf, fill, largest}}
+use Rattle.machine.specs.{Answers.isAccepted, Refusals.setupVerdict}
+use Rattle.machine.specs.{Calls.{Outcome, nameAt, answerOf, refuseOr, call, setup}, History.{Answered, counted, turnsOf}}
+use Rattle.machine.specs.promises.Refusing.{tasksOut}
 use Rattle.machine.specs.promises.{Demands.{memoryAfter, historyOf, used, HoldsSome, bound}, OneAccess.AcceptedIn}
 use Rattle.machine.specs.declared.{Settings.Settings, Name.Name, State.{State, the-variants.{Idle, Seeking, Holding}}}
 use Rattle.machine.specs.declared.{Kind.{Kind, the-variants.{Ask, Turn, Release}}, Event.Event, Answer.Answer}
-use Rattle.machine.specs.declared.Opening.{Opening}
-use Rattle.machine.proofs.{refusals.Passing.{passed, by-the-rules}, calls.Effects.only-the-register-written-changes}
-use Rattle.machine.proofs.bridge.Histories.{run-append, history-append}
+use Rattle.machine.specs.declared.{Record.Record, Verdict.Verdict, Opening.Opening}
+use Rattle.machine.proofs.refusals.{Lines.tasks-out, Refusing.started, Passing.{passed, by-the-rules}}
+use Rattle.machine.proofs.calls.{Fresh.fill-at, Effects.only-the-register-written-changes}
+use Rattle.machine.proofs.bridge.Histories.{run-keeps, run-append, history-append, call-few}
 use Rattle.machine.proofs.histories.{Served.turns-append, Demand3.{served-within, setup-takes}}
-use Rattle.counting.{specs.Counting.{tick, count, anyBelow}, proofs.Searching.{count-same, count-none}}
+use Rattle.counting.{specs.Counting.{tick, count, anyBelow}, proofs.{Lists.one-value, Searching.{count-same, count-none}}}
 use Rattle.file.specs.File.{codeAt, taskAt, eventAt}
 use Rattle.printed.specs.Listing.{Progress, turnsAfter, completed, progress, listingBy, holdersOf}
-use Rattle.printed.specs.EndLine.{eventsOf, memoryAt, holdersAt, answerAt, Completes, takenAt, turnsSince}
+use Rattle.printed.specs.EndLine.{eventsOf, memoryAt, holdersAt, outAt, answerAt, Completes, takenAt, turnsSince}
 use Rattle.printed.specs.EndLine.{turnsAt, linesOf, Attained, NoneCounts, Greatest, EndLineCounted, EndCountsOne}
-use Rattle.printed.specs.EndLine.{UsedCounted, MostWithinBound}
+use Rattle.printed.specs.EndLine.{UsedCounted, MostWithinBound, PeakWithin}
 use Rattle.printed.proofs.Greatest.{none-yet, one-skipped, one-counted, greatest-one}
 use Rattle.machine.specs.Calls as calls
 
@@ -165,15 +168,33 @@ module _ (s : Settings) (file : List ℕ) where
 
   -- ---- PEAK
 
-  abbrev HoldersMost : ℕ → ℕ → Type 0
-  HoldersMost n a = Greatest n (λ i. Unit {0}) (λ i. holdersAt s file (suc i)) a
+  out-kept : (n : ℕ) → outOf s (standing n .memory .records) ≡ outAt s file n
+  out-kept n = tasks-out s (standing n .memory) ∙ ap (tasksOut s) (memory-kept n)
 
-  peak-more : (n : ℕ) → standing (suc n) .peak ≡ max (standing n .peak) (holdersAt s file (suc n))
-  peak-more n = ap (max (standing n .peak)) (holders-kept (suc n))
+  abbrev OutMost : ℕ → ℕ → Type 0
+  OutMost n a = Greatest n (λ i. Unit {0}) (λ i. outAt s file (suc i)) a
 
-  peak-kept : (n : ℕ) → HoldersMost n (standing n .peak)
-  peak-kept zero = none-yet (λ i. Unit {0}) (λ i. holdersAt s file (suc i))
-  peak-kept (suc n) = rw (peak-more n) (one-counted (λ i. Unit {0}) (λ i. holdersAt s file (suc i)) tt (peak-kept n))
+  peak-more : (n : ℕ) → standing (suc n) .peak ≡ max (standing n .peak) (outAt s file (suc n))
+  peak-more n = ap (max (standing n .peak)) (out-kept (suc n))
+
+  peak-kept : (n : ℕ) → OutMost n (standing n .peak)
+  peak-kept zero = none-yet (λ i. Unit {0}) (λ i. outAt s file (suc i))
+  peak-kept (suc n) = rw (peak-more n) (one-counted (λ i. Unit {0}) (λ i. outAt s file (suc i)) tt (peak-kept n))
+
+  -- setup leaves nobody out, whether it is accepted or not
+  none-at-first : outOf s (setup s largest .memory .records) ≡ 0
+  none-at-first = go (setupVerdict s (viewOf s (largest .records) 0) largest)
+    where
+      go : (verdict : Verdict) → outOf s (refuseOr verdict largest (started s largest) .memory .records) ≡ 0
+      go Verdict.Accepted = count-none (λ p. isOut (getD (fill (s .n) idle (largest .records)) p idle .state)) (s .n)
+          (λ p l. rw (fill-at (s .n) p idle idle (largest .records) l))
+      go (Verdict.Refused why) = count-none (λ p. isOut (getD (replicate 256 idle) p idle .state)) (s .n)
+          (λ p l. ap (λ (r : Record). isOut (r .state)) (one-value 256 p idle))
+
+  few-out : (n : ℕ) → outAt s file n ≤ s .k
+  few-out n = rw (sym (tasks-out s (memoryAt s file n)))
+      (run-keeps s (λ m. outOf s (m .records) ≤ s .k) (call-few s) (eventsOf file n) (setup s largest .memory)
+      (rw none-at-first zero-le))
 
   -- ---- MOST
 
@@ -278,7 +299,7 @@ end-line-counted file s n opened = record {
 pub end-counts-one : EndCountsOne
 end-counts-one s file n holders peak most holders′ peak′ most′ c d = (
   c .at-the-end ∙ sym (d .at-the-end),
-  greatest-one (λ i. Unit {0}) (λ i. holdersAt s file (suc i)) (c .after-any) (d .after-any),
+  greatest-one (λ i. Unit {0}) (λ i. outAt s file (suc i)) (c .after-any) (d .after-any),
   greatest-one (Completes s file) (turnsAt s file) (c .of-completed) (d .of-completed),
 )
 
@@ -288,4 +309,12 @@ most-within-bound s file n holders peak most counts = go (counts .of-completed .
     go : Attained n (Completes s file) (turnsAt s file) most ⊎ (NoneCounts n (Completes s file) × (most ≡ 0))
         → most ≤ bound s
     go (inl (i, l, c, e)) = rw (sym e) (completed-within s file i c)
+    go (inr (none, e)) = omega arith
+
+pub peak-within : PeakWithin
+peak-within s file n holders peak most counts = go (counts .after-any .reached)
+  where
+    go : Attained n (λ i. Unit {0}) (λ i. outAt s file (suc i)) peak ⊎ (NoneCounts n (λ i. Unit {0}) × (peak ≡ 0))
+        → peak ≤ s .k
+    go (inl (i, l, c, e)) = rw (sym e) (few-out s file (suc i))
     go (inr (none, e)) = omega arith

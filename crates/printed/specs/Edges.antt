@@ -102,6 +102,18 @@ abbrev pub TheListing : Type 0
 TheListing = (listing sample ≡ sampleText) × (used (settings 1 2 2) largest (eventsOf sample 9) 0 ≡ 6)
     × (bound (settings 1 2 2) ≡ 6)
 
+-- 02, P2: "With k = 2, two asks and nothing more give PEAK 2", in both modes
+abbrev pub twoAsks : ℕ → List ℕ
+twoAsks mode =
+    0x47 ∷ 0x52 ∷ 0x53 ∷ 0x01 ∷ 0x00 ∷ mode ∷ 0x02 ∷ 0x00 ∷ 0x02 ∷ 0x02 ∷ 0x00
+    ∷ 0 ∷ 0 ∷ 0 ∷ 0 ∷ 1 ∷ 0
+    ∷ []
+
+abbrev pub TwoAsks : Type 0
+TwoAsks =
+    (listing (twoAsks 1) ≡ bytesOf "grid 1 2 2\n0 ask 0 seeks\n1 ask 1 seeks\nend 0 2 0\n")
+    × (listing (twoAsks 0) ≡ bytesOf "grid 0 2 2\n0 ask 0 seeks\n1 ask 1 seeks\nend 0 2 0\n")
+
 -- Mode 1, N = 3, k = 2, two out, the third task's ask: 7. After one is freed: accepted. The two are both at their
 -- start, or p holds, or both hold; either is freed. Behind the holder p the other needs p + 3 turns: write X, scan to
 -- p's mark, clear
@@ -160,6 +172,7 @@ pub record Edges : Type 0 where
   pub the-other-task : TheOtherTask
   pub one-time-pair : OneTimePair
   pub the-listing : TheListing
+  pub two-asks : TwoAsks
   pub two-out : TwoOut
   pub last-identifier : LastIdentifier
   pub no-release : NoRelease

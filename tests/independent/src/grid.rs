@@ -138,6 +138,31 @@ impl Record {
     }
 }
 
+/// How many tasks are out: they seek or hold.
+#[derive(Clone, Copy, Default)]
+pub struct Out {
+    pub seekers: usize,
+    pub holders: usize,
+}
+
+impl Out {
+    pub fn of(records: &[Record]) -> Out {
+        let mut out = Out::default();
+        for record in records {
+            match record {
+                Record::Idle => {}
+                Record::Seeking(..) => out.seekers += 1,
+                Record::Holding(_) => out.holders += 1,
+            }
+        }
+        out
+    }
+
+    pub fn all(self) -> usize {
+        self.seekers + self.holders
+    }
+}
+
 /// The shared registers. An X of 0 means nobody, p+1 means task p; a mark is 0 or 1.
 #[derive(Clone, PartialEq, Eq, Hash, Debug)]
 pub struct Registers {

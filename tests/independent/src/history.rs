@@ -1,7 +1,7 @@
 //! A setup and the calls after it, with what the end line of the listing counts.
 
 use crate::calls::{self, Answer, Memory};
-use crate::grid::{Record, Settings};
+use crate::grid::{Out, Record, Settings};
 use crate::refusal::Refusal;
 use crate::rules::Rules;
 use crate::schedule::{Event, Kind};
@@ -13,7 +13,8 @@ pub struct History<'a> {
     pub memory: Memory,
     /// For each task, the accepted turns since its last accepted ask.
     pub turns: Vec<usize>,
-    /// The greatest number of holders after any event.
+    pub out: Out,
+    /// The greatest number of tasks out after any event.
     pub peak: usize,
     /// The most accepted turns any completed acquisition used.
     pub most: usize,
@@ -28,11 +29,21 @@ impl<'a> History<'a> {
         let mut memory = Memory::idle(rules, settings);
         calls::setup(rules, settings, &mut memory)?;
         let turns = vec![0; settings.tasks()];
-        Ok(History { rules, settings, memory, turns, peak: 0, most: 0 })
+        Ok(History { rules, settings, memory, turns, out: Out::default(), peak: 0, most: 0 })
     }
 
     /// Runs one event and keeps count.
     pub fn call(&mut self, event: Event) -> Result<Answer, Refusal> {
+        let before = self.out;
+        let answer = self.call_and_count_turns(event);
+        if answer.is_ok() {
+            self.out = Out::of(&self.memory.records);
+        }
+        self.peak = self.rules.peak(self.peak, before, self.out);
+        answer
+    }
+
+    fn call_and_count_turns(&mut self, event: Event) -> Result<Answer, Refusal> {
         let id = event.identifier();
         let task = usize::from(event.id);
         let call = match event.kind {
@@ -48,22 +59,11 @@ impl<'a> History<'a> {
         }
         if let Answer::Holds(_) = answer {
             self.most = self.most.max(self.turns[task]);
-            self.peak = self.peak.max(self.holders());
         }
         Ok(answer)
     }
 
     pub fn record(&self, task: u16) -> Record {
         self.memory.records[usize::from(task)]
-    }
-
-    pub fn holders(&self) -> usize {
-        let holds = |record: &&Record| matches!(record, Record::Holding(_));
-        self.memory.records.iter().filter(holds).count()
-    }
-
-    /// The tasks that seek or hold.
-    pub fn out(&self) -> usize {
-        self.memory.records.iter().filter(|record| **record != Record::Idle).count()
     }
 }

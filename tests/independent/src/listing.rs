@@ -29,6 +29,6 @@ fn good_listing(rules: &dyn Rules, bytes: &[u8]) -> Result<String, Refusal> {
             Err(refusal) => writeln!(text, "{refusal}"),
         };
     }
-    let _ = writeln!(text, "end {} {} {}", history.holders(), history.peak, history.most);
+    let _ = writeln!(text, "end {} {} {}", history.out.holders, history.peak, history.most);
     Ok(text)
 }

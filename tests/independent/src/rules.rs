@@ -1,6 +1,6 @@
 //! 01, "Rules of the grid": what an accepted turn or release does, and the tests of the moment.
 
-use crate::grid::{x_of, Direction, Name, Place, Point, Record, Registers, Settings};
+use crate::grid::{x_of, Direction, Name, Out, Place, Point, Record, Registers, Settings};
 use crate::refusal::Refusal;
 use crate::schedule::Kind;
 
@@ -65,6 +65,12 @@ pub trait Rules: Sync {
         } else {
             Err(Refusal::TooManyOut)
         }
+    }
+
+    /// 02, P2: PEAK after an event is the greatest number out after any event up to it. Given are
+    /// PEAK before the event and the tasks out before and after it.
+    fn peak(&self, peak: usize, _: Out, after: Out) -> usize {
+        peak.max(after.all())
     }
 
     /// A turn of the seeking task p that stands at this place and point: the next record.

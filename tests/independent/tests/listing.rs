@@ -55,6 +55,19 @@ fn file_without_events() {
     assert_eq!(listing(&Grid, &file), "grid 0 256 16\nend 0 0 0\n");
 }
 
+/// 02, P2: PEAK is the greatest number out, also where no name is given.
+#[test]
+fn peak_counts_seekers_and_holders() {
+    let settings = Settings::new(1, 2, 2);
+    let mut events = [0, 1].map(|id| Event::new(Kind::Ask, id)).to_vec();
+    let asked = listing(&Grid, &file_of(settings, &events).unwrap());
+    assert_eq!(asked, "grid 1 2 2\n0 ask 0 seeks\n1 ask 1 seeks\nend 0 2 0\n");
+    events.extend([Event::new(Kind::Turn, 0); 5]);
+    events.push(Event::new(Kind::Free, 0));
+    let freed = listing(&Grid, &file_of(settings, &events).unwrap());
+    assert!(freed.ends_with("6 turn 0 holds 0\n7 free 0 freed 0\nend 0 2 5\n"));
+}
+
 #[test]
 fn most_counts_only_completed_acquisitions_and_peak_outlasts_releases() {
     let settings = Settings::new(1, 2, 1);
@@ -68,7 +81,7 @@ fn most_counts_only_completed_acquisitions_and_peak_outlasts_releases() {
     let mut events = vec![Event::new(Kind::Ask, 4)];
     events.extend([Event::new(Kind::Turn, 4); 11]);
     let unfinished = listing(&Grid, &file_of(settings, &events).unwrap());
-    assert!(unfinished.ends_with("11 turn 4 seeks\nend 0 0 0\n"));
+    assert!(unfinished.ends_with("11 turn 4 seeks\nend 0 1 0\n"));
     events.push(Event::new(Kind::Turn, 4));
     let finished = listing(&Grid, &file_of(settings, &events).unwrap());
     assert!(finished.ends_with("12 turn 4 holds 0\nend 1 1 12\n"));

@@ -23,7 +23,7 @@ returns c =
     c3 .completed .ensures ∙ rw (c3 .before .turns-of .ensures, turns) refl in
     stands-advanced (a .s) (a .position) (a .event) (a .at) (lent (a .at .records) (now (a .xs)) (now (a .marks)))
     (now (a .room)) _ _ _ (c1 .make .ensures) turns
-    (c4 .before .larger .ensures ∙ ap (max (a .at .peak)) (c4 .before .before .holders .ensures .0))
+    (c4 .before .larger .ensures ∙ ap (max (a .at .peak)) (c4 .before .before .among .ensures .0))
     (c4 .larger2 .ensures ∙ ap (max (a .at .most)) used) (c5 .put-event .ensures)
 
 pub advance-spec : {M : Type 1} → statement M

@@ -75,8 +75,8 @@ loop-again c =
           (at .loop .inv .4 first fits begun) advanced,
     )
 
-holders-requires : tie.Need-holders-requires Inv-loop μ-loop
-holders-requires c κs =
+among-requires : tie.Need-among-requires Inv-loop μ-loop
+among-requires c κs =
     let at = start (c .before .before) in
     tasks-few (now (at .args .file)) (at .args .s) (at .args .count) (at .pre .0)
 
@@ -90,7 +90,7 @@ returns c =
     let at = c .before .before .before .before .before .before .before in
     let a = start at .args in
     let all : at .loop .i ≡ a .count = omega arith in
-    let holders = c .before .before .before .before .holders .ensures .0 in
+    let holders = c .before .before .before .before .among .ensures .0 in
     rw (sym all) (ends (a .s) (now (a .file)) (at .loop .i) (at .loop .standing) _ (now (a .room))
     (at .loop .room) _ _ _
     (omega (arith, start at .pre .2)) (here at) holders (c .before .before .put-end .ensures))
@@ -109,7 +109,7 @@ run-spec =
     add-i
     (λ c. search needs)
     loop-again
-    holders-requires
+    among-requires
     put-end-requires
     (λ c. search needs)
     (λ c. search needs)

@@ -5,11 +5,11 @@ use native.Mathlib.{Nat.{le-trans, not-suc-le-zero}, Decide.ℕ-discrete, Omega.
 use lib.Dec.{T}
 use borrow.Author.Tests.{leb-false}
 use Rattle.machine.specs.{Settings.width, Records.isOut, Memory.{Memory, marksNeeded, stateOf, outOf, fill}}
-use Rattle.machine.specs.{Refusals.wrongMoment, Calls.{Outcome, call, accept, setup}}
+use Rattle.machine.specs.{Refusals.wrongMoment, Calls.{Outcome, refuseOr, verdictOf, call, accept, setup}}
 use Rattle.machine.specs.History.{run, Answered, history}
 use Rattle.machine.specs.promises.{Demands.{SetUp, memoryAfter}, Ranges.WithinLimits}
 use Rattle.machine.specs.declared.{Settings.Settings, State.{State, the-variants.{Idle, Seeking, Holding}}}
-use Rattle.machine.specs.declared.{Kind.{Kind, the-variants.{Ask, Turn, Release}}, Event.Event}
+use Rattle.machine.specs.declared.{Kind.{Kind, the-variants.{Ask, Turn, Release}}, Event.Event, Verdict.Verdict}
 use Rattle.counting.specs.Counting.{count}
 use Rattle.counting.proofs.{Bools.is-false, Searching.count-none, Counting.{count-most, count-but-one}}
 use Rattle.machine.proofs.calls.Fresh.{fill-at, setup-within, setup-memory, fresh-idle, fresh-none-out}
@@ -17,7 +17,7 @@ use Rattle.machine.proofs.calls.Fresh.{fresh-fit}
 use Rattle.machine.proofs.calls.{Outcomes.{Called, taken, refused, called}, Fitting.accept-fits}
 use Rattle.machine.proofs.bridge.AsGrid.{rulesOf, standOf, gridOf, all-unmarked}
 use Rattle.machine.proofs.bridge.Steps.{in-place, others-after, accepted-step}
-use Rattle.machine.proofs.refusals.{Passed.{Fit, May}, Refusing.ruled}
+use Rattle.machine.proofs.refusals.{Passed.{Fit, May}, Passing.passed, Refusing.{ruled, ruled-accepted}}
 use Rattle.grid.proofs.{Cover.{beyond, beyond-out}, Stands.{Rules, idle, Grid, Marks, HoldsAt, columnReach}}
 use Rattle.grid.proofs.{Covered.reachOf, Invariant.{AllInPlace, Invariant, invariant-kept}}
 
@@ -129,34 +129,39 @@ module _ (s : Settings) (fair : WithinLimits s) where
   accepted-few Release p memory sound o few =
       le-trans (none-more-out Release p memory sound (o .known) (release-out (stateOf memory p) (o .moment))) few
 
-  call-few : (event : Event) (memory : Memory) → Fit s memory → outOf s (memory .records) ≤ s .k
-      → outOf s (call s event memory .memory .records) ≤ s .k
-  call-few event memory sound few = go (call s event memory) (called s fair event memory sound)
-    where
-      go : (outcome : Outcome) → Called s event memory outcome → outOf s (outcome .memory .records) ≤ s .k
-      go outcome (refused why) = few
-      go outcome (taken o) = accepted-few (event .kind) (event .task .0) memory sound o few
+-- a call that is accepted has passed its tests, so this asks nothing of the memory
+pub call-few : (s : Settings) (event : Event) (memory : Memory) → outOf s (memory .records) ≤ s .k
+    → outOf s (call s event memory .memory .records) ≤ s .k
+call-few s event memory few = go (verdictOf s event memory) refl
+  where
+    go : (verdict : Verdict) → verdictOf s event memory ≡ verdict
+        → outOf s (refuseOr verdict memory (ruled s event memory) .memory .records) ≤ s .k
+    go (Verdict.Refused why) e = few
+    go Verdict.Accepted e =
+        let tests = passed s event memory (rw e (ruled-accepted s event memory)) in
+        accepted-few s (tests .limits) (event .kind) (event .task .0) memory (tests .fit) (tests .may) few
 
-  -- ---- every memory of a history
+-- ---- every memory of a history
 
+module _ (s : Settings) (fair : WithinLimits s) where
   -- J0 to J3 with m = k, and at most k out
   pub record InOrder (memory : Memory) : Type 0 where
-    pub invariants : Invariants (s .k) memory
+    pub invariants : Invariants s fair (s .k) memory
     pub few : outOf s (memory .records) ≤ s .k
 
   pub in-order-kept : (event : Event) (memory : Memory) → InOrder memory → InOrder (call s event memory .memory)
   in-order-kept event memory f =
-      let few = call-few event memory (f .invariants .fit) (f .few) in
-      record { invariants = invariants-kept (s .k) event memory (f .invariants) few; few = few }
+      let few = call-few s event memory (f .few) in
+      record { invariants = invariants-kept s fair (s .k) event memory (f .invariants) few; few = few }
 
   -- ---- setup
 
   -- a grid where everybody is idle and no mark is set
   idle-invariant : (m : ℕ) (v : Grid) → ((q : ℕ) → q < s .n → v .stand q ≡ idle) → ((r c l : ℕ) → v .mark r c l ≡ 0)
-      → Invariant rules m v
+      → Invariant (rules s fair) m v
   idle-invariant m v nobody unmarked = record {
     mark-set = λ r c q l b t. absurd (let z : Marks (width s) idle r c = rw (nobody q l) at t in z);
-    mark-owned = λ _ r c q l b e. absurd (omega (arith, unmarked r c (rules .own q)));
+    mark-owned = λ _ r c q l b e. absurd (omega (arith, unmarked r c (rules s fair .own q)));
     mark-witnessed = λ _ r c l b h e. absurd (omega (arith, unmarked r c l));
     holder-alone = λ p q r c lp lq d b h. absurd (let z : HoldsAt idle r c = rw (nobody p lp) at h in z);
     covered = λ r c l. rw (count-none (beyond (reachOf v) r c) (s .n) (λ q h. is-false (beyond (reachOf v) r c q) (λ t.

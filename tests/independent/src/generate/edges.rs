@@ -62,6 +62,14 @@ fn asks_beyond_k(settings: Settings) -> Case {
     Case::of_schedule(format!("edge asks beyond k, mode {mode} N {n} k {k}"), settings, &events)
 }
 
+/// So many asks and nothing more: PEAK is reached by the last event, or before a refused one.
+fn only_asks(settings: Settings, count: u16) -> Case {
+    let events: Vec<Event> = (0..count).map(ask).collect();
+    let Settings { mode, n, k } = settings;
+    let label = format!("edge only {count} asks, mode {mode} N {n} k {k}");
+    Case::of_schedule(label, settings, &events)
+}
+
 /// Every kind of call by k tasks at every moment: idle, seeking with few and with k out, holding
 /// with k out, and idle again.
 fn moments(settings: Settings) -> Case {
@@ -118,6 +126,8 @@ pub fn cases() -> Vec<Case> {
     for mode in [0, 1] {
         for (n, k) in sizes.into_iter().chain([(256, 16)]) {
             let settings = Settings::new(mode, n, k);
+            let k = u16::from(k);
+            cases.extend([k - 1, k, k + 1].map(|count| only_asks(settings, count)));
             cases.push(asks_beyond_k(settings));
             cases.push(identifiers(settings));
             if settings.k() * (settings.bound() + 14) <= MOST_EVENTS {

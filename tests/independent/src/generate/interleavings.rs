@@ -169,7 +169,7 @@ impl Maker<'_> {
         let settings = self.history.settings;
         !self.held.contains(&player)
             && match self.history.record(player) {
-                Record::Idle => self.history.out() < settings.k(),
+                Record::Idle => self.history.out.all() < settings.k(),
                 Record::Seeking(..) => true,
                 Record::Holding(_) => settings.long_lived() && self.random.percent(self.freeing),
             }
@@ -189,7 +189,7 @@ impl Maker<'_> {
     /// One-time, with k holders: no more calls are accepted, and now and then the schedule ends.
     fn nobody_moves_again(&mut self) -> bool {
         let settings = self.history.settings;
-        let over = !settings.long_lived() && self.history.holders() == settings.k();
+        let over = !settings.long_lived() && self.history.out.holders == settings.k();
         over && self.random.percent(10)
     }
 
@@ -243,7 +243,7 @@ impl Maker<'_> {
 
     /// The idle players ask, one more than the grid takes.
     fn fill(&mut self) {
-        let room = self.history.settings.k() - self.history.out().min(self.history.settings.k());
+        let room = self.history.settings.k() - self.history.out.all();
         let idle = |player: &u16| self.history.record(*player) == Record::Idle;
         let asking: Vec<u16> = self.players.iter().copied().filter(idle).take(room + 1).collect();
         for player in &asking {

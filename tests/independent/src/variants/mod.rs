@@ -2,15 +2,50 @@
 //! it in one rule, and the generated cases must tell it from the grid.
 
 pub mod moment;
+pub mod peak;
 pub mod shortcuts;
 
 use crate::rules::{Grid, Rules};
 
-/// A wrong grid by its name.
-pub type Variant = (&'static str, &'static dyn Rules);
+/// What must tell a variant from the grid.
+#[derive(Clone, Copy, PartialEq, Eq)]
+enum ToldBy {
+    Schedules,
+    Both,
+}
 
-pub fn all() -> impl Iterator<Item = Variant> {
-    shortcuts::ALL.into_iter().chain(moment::ALL)
+/// A wrong grid.
+#[derive(Clone, Copy)]
+pub struct Variant {
+    pub name: &'static str,
+    pub rules: &'static dyn Rules,
+    told_by: ToldBy,
+}
+
+impl Variant {
+    /// A variant that differs from the grid in listings only.
+    const fn by_schedules(name: &'static str, rules: &'static dyn Rules) -> Variant {
+        Variant { name, rules, told_by: ToldBy::Schedules }
+    }
+
+    /// A variant that differs from the grid in listings and in calls.
+    const fn both(name: &'static str, rules: &'static dyn Rules) -> Variant {
+        Variant { name, rules, told_by: ToldBy::Both }
+    }
+}
+
+fn all() -> impl Iterator<Item = Variant> {
+    shortcuts::ALL.into_iter().chain(moment::ALL).chain(peak::ALL)
+}
+
+/// The variants that schedules must tell from the grid.
+pub fn told_by_schedules() -> Vec<Variant> {
+    all().collect()
+}
+
+/// The variants that calls on arbitrary memories must tell from the grid.
+pub fn told_by_calls() -> Vec<Variant> {
+    all().filter(|variant| variant.told_by == ToldBy::Both).collect()
 }
 
 /// The rules of that name: `grid`, or one of the variants.
@@ -18,5 +53,5 @@ pub fn rules_named(name: &str) -> Option<&'static dyn Rules> {
     if name == "grid" {
         return Some(&Grid);
     }
-    all().find(|(of, _)| *of == name).map(|(_, rules)| rules)
+    all().find(|variant| variant.name == name).map(|variant| variant.rules)
 }

@@ -76,10 +76,10 @@ impl Rules for RoomFirst {
 }
 
 pub const ALL: [Variant; 6] = [
-    ("still-six", &StillSix),
-    ("idle-for-seeking", &IdleForSeeking),
-    ("number-by-call", &NumberByCall),
-    ("ask-of-holder", &AskOfHolder),
-    ("nothing-to-free", &NothingToFree),
-    ("room-first", &RoomFirst),
+    Variant::both("still-six", &StillSix),
+    Variant::both("idle-for-seeking", &IdleForSeeking),
+    Variant::both("number-by-call", &NumberByCall),
+    Variant::both("ask-of-holder", &AskOfHolder),
+    Variant::both("nothing-to-free", &NothingToFree),
+    Variant::both("room-first", &RoomFirst),
 ];

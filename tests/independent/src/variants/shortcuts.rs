@@ -117,10 +117,10 @@ impl Rules for BlockNames {
 
 /// The shortcuts by name.
 pub const ALL: [Variant; 6] = [
-    ("shared-mark", &SharedMark),
-    ("clear-every-mark", &ClearEveryMark),
-    ("count-holders", &CountHolders),
-    ("scan-at-once", &ScanAtOnce),
-    ("test-x-first", &TestXFirst),
-    ("block-names", &BlockNames),
+    Variant::both("shared-mark", &SharedMark),
+    Variant::both("clear-every-mark", &ClearEveryMark),
+    Variant::both("count-holders", &CountHolders),
+    Variant::both("scan-at-once", &ScanAtOnce),
+    Variant::both("test-x-first", &TestXFirst),
+    Variant::both("block-names", &BlockNames),
 ];
