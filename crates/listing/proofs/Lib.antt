@@ -2,4 +2,3 @@ pub mod Counting
 pub mod Contract
 pub mod Opened
 pub mod Running
-pub mod Writing

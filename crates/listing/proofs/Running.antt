@@ -10,9 +10,9 @@ use Rattle.printed.specs.Listing.{Progress, gridLine, eventLine, endLine, turns
 use Rattle.printed.specs.Listing.{advance, progress, ended}
 use Rattle.calls.specs.{Made.outcomeOf, declared.Call.Call}
 use Rattle.text.specs.Put.{Puts}
-use Rattle.listing.specs.{declared.Standing.Standing, Writes.Writes}
-use Rattle.listing.specs.Standing.{progressOf, Begun, advanced, Advanced}
-use Rattle.listing.proofs.{Writing.{next, then, wider}, Counting.turns-few}
+use Rattle.report.{specs.Writes.Writes, proofs.Writing.{next, then, wider}}
+use Rattle.listing.specs.{declared.Standing.Standing, Standing.{progressOf, Begun, advanced, Advanced}}
+use Rattle.listing.proofs.Counting.{turns-few}
 
 setup-outcome : (s : Settings) (m : Memory) → outcomeOf s Call.Setup m ≡ setup s m
 unfolding outcomeOf

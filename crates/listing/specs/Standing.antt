@@ -5,7 +5,8 @@ use lib.ListN.{replicate}
 use Rattle.printed.specs.Listing.{Progress, gridLine, advanceBy}
 use Rattle.machine.specs.{declared.{Settings.Settings, Event.Event}, Memory.Memory}
 use Rattle.calls.specs.{Made.outcomeOf, declared.Call.Call}
-use Rattle.listing.specs.{declared.Standing.Standing, Writes.Writes}
+use Rattle.report.specs.Writes.{Writes}
+use Rattle.listing.specs.declared.Standing.{Standing}
 
 -- where the code stands, on this memory and with these lines printed, as the progress of a run
 abbrev pub progressOf : Standing → Memory → List ℕ → Progress

@@ -14,24 +14,23 @@ use machine::Settings;
 use machine::State;
 use machine::TaskId;
 use machine::Writing;
-use text::copy;
-use text::number;
+use report::put_end;
+use report::put_event;
+use report::put_grid;
+use report::put_refused;
 ghost use mathlib.Core.Path.{_≡_};
-ghost use mathlib.Core.List.{_++_};
 ghost use Prim.Native.Nat.{ℕ, _+_, _*_, _≤_, _<_, max};
 ghost use lib.ListN.{length, getD, replicate};
 ghost use Rattle.machine.specs.Records.{idle};
 ghost use Rattle.counting.specs.Counting.{tick};
 ghost use Rattle.machine.specs.Memory.{largest};
-ghost use Rattle.machine.specs.Answers.{numberOf, isAccepted};
+ghost use Rattle.machine.specs.Answers.{isAccepted};
 ghost use Rattle.machine.specs.History.{counted};
 ghost use Rattle.file.specs.File.{eventAt, opening, writtenOf};
-ghost use Rattle.text.specs.Decimal.{decimal, lineFeed};
-ghost use Rattle.printed.specs.Listing.{kindText, answerText, gridLine, eventLine, endLine, turnsAfter, completed, refusedLine, progress, ended};
+ghost use Rattle.printed.specs.Listing.{turnsAfter, completed, progress, ended};
 ghost use Rattle.machine.specs.Lent.{lent};
 ghost use Rattle.text.specs.Put.{Puts};
 ghost use Rattle.listing.specs.Counts.{counts, among};
-ghost use Rattle.listing.specs.Writes.{Writes};
 ghost use Rattle.listing.specs.Standing.{Begun, Advanced};
 ghost use Rattle.printed.specs.Listed.{listed};
 
@@ -49,99 +48,6 @@ struct Standing {
 enum Who {
     Holders,
     Out,
-}
-
-// ---- pieces of a line
-
-// A number in decimal, which has at most five digits.
-fn decimal(room: &mut [u8], at: usize, n: u16) -> usize
-    requires { ⌜ at + 5 ≤ length (now room) ⌝ }
-    ensures { λ to. ⌜ Writes 5 (now (room .entry)) at (decimal n) to (now (room .exit)) ⌝ }
-{
-    number(room, at, n)
-}
-
-// The end of a line.
-fn line_feed(room: &mut [u8], at: usize) -> usize
-    requires { ⌜ at + 1 ≤ length (now room) ⌝ }
-    ensures { λ to. ⌜ Writes 1 (now (room .entry)) at lineFeed to (now (room .exit)) ⌝ }
-{
-    copy(room, at, b"\n")
-}
-
-// A text and a number after it.
-fn labelled(room: &mut [u8], at: usize, label: &[u8], n: u16) -> usize
-    requires { ⌜ at + (length (now label) + 5) ≤ length (now room) ⌝ }
-    ensures { λ to. ⌜ Writes (length (now (label .entry)) + 5) (now (room .entry)) at (now (label .entry) ++ decimal n) to (now (room .exit)) ⌝ }
-{
-    let next = copy(room, at, label);
-    decimal(room, next, n)
-}
-
-// KIND: ask, turn or free.
-fn put_kind(room: &mut [u8], at: usize, kind: Kind) -> usize
-    requires { ⌜ at + 5 ≤ length (now room) ⌝ }
-    ensures { λ to. ⌜ Writes 5 (now (room .entry)) at (kindText kind) to (now (room .exit)) ⌝ }
-{
-    match kind {
-        Kind::Ask => copy(room, at, b"ask "),
-        Kind::Turn => copy(room, at, b"turn "),
-        Kind::Release => copy(room, at, b"free "),
-    }
-}
-
-// ANSWER: seeks, holds NAME, freed NAME or refused NUMBER.
-fn put_answer(room: &mut [u8], at: usize, answer: Answer) -> usize
-    requires { ⌜ at + 13 ≤ length (now room) ⌝ }
-    ensures { λ to. ⌜ Writes 13 (now (room .entry)) at (answerText answer) to (now (room .exit)) ⌝ }
-{
-    match answer {
-        Answer::Done => copy(room, at, b"done"),
-        Answer::Seeks => copy(room, at, b"seeks"),
-        Answer::Holds(name) => labelled(room, at, b"holds ", name.0),
-        Answer::Freed(name) => labelled(room, at, b"freed ", name.0),
-        Answer::Refused(why) => labelled(room, at, b"refused ", why.number()),
-    }
-}
-
-// ---- lines
-
-// The line `grid MODE N K`.
-fn put_grid(room: &mut [u8], s: Settings) -> usize
-    requires { ⌜ 23 ≤ length (now room) ⌝ }
-    ensures { λ to. ⌜ Writes 23 (now (room .entry)) 0 (gridLine s) to (now (room .exit)) ⌝ }
-{
-    let at = labelled(room, 0, b"grid ", s.mode as u16);
-    let at = labelled(room, at, b" ", s.n);
-    let at = labelled(room, at, b" ", s.k as u16);
-    line_feed(room, at)
-}
-
-// The line `POSITION KIND ID ANSWER`.
-fn put_event(room: &mut [u8], at: usize, position: u16, event: Event, answer: Answer) -> usize
-    requires { ⌜ at + 31 ≤ length (now room) ⌝ }
-    ensures { λ to. ⌜ Writes 31 (now (room .entry)) at (eventLine position event answer) to (now (room .exit)) ⌝ }
-{
-    let kind = event.kind;
-    let task = event.task;
-    let at = decimal(room, at, position);
-    let at = copy(room, at, b" ");
-    let at = put_kind(room, at, kind);
-    let at = decimal(room, at, task.0);
-    let at = copy(room, at, b" ");
-    let at = put_answer(room, at, answer);
-    line_feed(room, at)
-}
-
-// The line `end HOLDERS PEAK MOST`.
-fn put_end(room: &mut [u8], at: usize, holders: u16, peak: u16, most: u16) -> usize
-    requires { ⌜ at + 22 ≤ length (now room) ⌝ }
-    ensures { λ to. ⌜ Writes 22 (now (room .entry)) at (endLine holders peak most) to (now (room .exit)) ⌝ }
-{
-    let at = labelled(room, at, b"end ", holders);
-    let at = labelled(room, at, b" ", peak);
-    let at = labelled(room, at, b" ", most);
-    line_feed(room, at)
 }
 
 // ---- what is counted
@@ -376,15 +282,6 @@ fn run(
     let records = standing.records;
     let held = among(s, records, Who::Holders);
     put_end(room, standing.at, held, standing.peak, standing.most)
-}
-
-// The line of a file that does not open.
-fn put_refused(room: &mut [u8], why: Refusal) -> usize
-    requires { ⌜ 14 ≤ length (now room) ⌝ }
-    ensures { λ to. ⌜ Puts (now (room .entry)) 0 (refusedLine (numberOf why)) to (now (room .exit)) ⌝ }
-{
-    let at = labelled(room, 0, b"refused ", why.number());
-    line_feed(room, at)
 }
 
 // The lines of an opened file.

@@ -1,33 +1,23 @@
 -- `event_of` gives the event of an opened file: the reader gives it, and refuses none.
-use mathlib.Core.Path.{sym, ap, _∙_}
+use mathlib.Core.Path.{_≡_, sym, ap, _∙_}
 use denote.Ref.{now}
-use Rattle.listing.proofs.{Opened.{event-given, given-is, given-not}, event_of.Statement.statement}
 use borrow.Author.Needs.{needs}
+use Rattle.machine.specs.declared.Reading.{Reading}
+use Rattle.file.specs.File.{eventAt}
+use Rattle.listing.proofs.{Opened.{event-given, given-is, given-not}, event_of.Statement.statement}
 use Rattle.listing.proofs.event_of.Tie as tie
 
-read-requires : tie.Need-read-requires
-read-requires c κs = search needs
-
-enum-known-answer : tie.Need-enum-known-answer
-enum-known-answer c = search needs
-
-enum-told : tie.Need-enum-told
-enum-told c = search needs
-
-returns : tie.Need-returns
-returns c =
-    let a = c .before .before .before .before .before .args in
-    let pre = c .before .before .before .before .before .pre in
-    given-is _ _ (sym (c .before .answer .given .1)
-    ∙ ap (λ next. next .answer) (c .before .before .before .read .ensures)
-    ∙ event-given (now (a .file)) (a .s) (a .count) (pre .0) (a .i) (pre .1))
-
-returns-2 : tie.Need-returns-2
-returns-2 c =
-    let a = c .before .before .before .before .args in
-    let pre = c .before .before .before .before .pre in
-    absurd (given-not _ _ (sym (c .enum-told .given .1) ∙ ap (λ next. next .answer) (c .before .before .read .ensures)
-    ∙ event-given (now (a .file)) (a .s) (a .count) (pre .0) (a .i) (pre .1)))
+-- what the reader answers
+reads : (c : tie.After-read) → let a = c .before .before .args in
+    c .read .result .answer ≡ Reading.Given (eventAt (now (a .file)) (a .i))
+reads c =
+    let start = c .before .before in
+    let a = start .args in
+    ap (λ next. next .answer) (c .read .ensures)
+    ∙ event-given (now (a .file)) (a .s) (a .count) (start .pre .0) (a .i) (start .pre .1)
 
 pub event-of-spec : {M : Type 1} → statement M
-event-of-spec = tie.close (tie.spec read-requires enum-known-answer enum-told returns returns-2)
+event-of-spec =
+    tie.close (tie.spec (λ c κs. search needs) (λ c. search needs) (λ c. search needs)
+    (λ c. given-is _ _ (sym (c .before .answer .given .1) ∙ reads (c .before .before .before)))
+    (λ c. absurd (given-not _ _ (sym (c .enum-told .given .1) ∙ reads (c .before .before)))))

@@ -24,9 +24,11 @@ Inv-loop file s count room₀ xs₀ marks₀ standing₀ i₀ room xs marks stan
 abbrev μ-loop : tie.MeasureT-loop
 μ-loop file s count room₀ xs₀ marks₀ standing₀ i₀ room xs marks standing i = count - i
 
+abbrev first : tie.At-loop Inv-loop μ-loop → tie.After-begin Inv-loop μ-loop
+first c = c .before .before .before .before .before .before .before
+
 abbrev start : tie.At-loop Inv-loop μ-loop → tie.Start Inv-loop μ-loop
-start c =
-    c .before .before .before .before .before .before .before .before .before .before .before .before .before .before .before
+start c = first c .before .before .before .before .before .before .before .before
 
 -- where the code stands at the loop's head
 here : (c : tie.At-loop Inv-loop μ-loop)
@@ -35,8 +37,8 @@ here : (c : tie.At-loop Inv-loop μ-loop)
 here c =
     let a = start c .args in
     let pre = start c .pre in
-    let begun = c .before .before .before .before .before .before .before .begin .ensures in
-    c .loop .inv .4 (now (a .room)) (pre .2) (begins (a .s) (now (a .file)) _ (now (a .room)) _ _ _ (pre .1) begun)
+    c .loop .inv .4 (now (a .room)) (pre .2)
+    (begins (a .s) (now (a .file)) _ (now (a .room)) _ _ _ (pre .1) (first c .begin .ensures))
 
 loop-holds : tie.Need-loop-holds Inv-loop μ-loop
 loop-holds c = (search needs, refl, refl, refl, λ first fits begun. begun)
@@ -49,21 +51,22 @@ advance-requires c κs =
     let at = c .before .before .before .before .before in
     let a = start at .args in
     let pre = start at .pre in
-    let l = at .loop in
-    let stands = here at in
-    let few = events-few (now (a .file)) (a .s) (a .count) (pre .0) in
-    let room = stands-room stands 31 (search needs) in
-    (tasks-few (now (a .file)) (a .s) (a .count) (pre .0), λ p. stands-turns stands p (omega arith), room)
+    let few = events-few (now (a .file)) (a .s) (a .count) (pre .0) in (
+      tasks-few (now (a .file)) (a .s) (a .count) (pre .0),
+      λ p. stands-turns (here at) p (omega arith),
+      stands-room (here at) 31 (search needs),
+    )
 
 add-i : tie.Need-add-i Inv-loop μ-loop
 add-i c =
-    let at = c .before .before .before .before .before .before .before .before .before .before .before .before in
+    let step = c .before .before .before .before .before .before in
+    let at = step .before .before .before .before .before .before in
     omega (arith, start at .fits .count)
 
 loop-again : tie.Need-loop-again Inv-loop μ-loop
 loop-again c =
     let step = c .before .before .before .before .before .before in
-    let at = c .before .before .before .before .before .before .before .before .before .before .before .before in
+    let at = step .before .before .before .before .before .before in
     let a = start at .args in
     let kept = step .advance .kept in
     let advanced = rw (step .before .before .before .before .event-of .ensures) at (step .advance .ensures) in (
@@ -81,37 +84,20 @@ among-requires c κs =
     tasks-few (now (at .args .file)) (at .args .s) (at .args .count) (at .pre .0)
 
 put-end-requires : tie.Need-put-end-requires Inv-loop μ-loop
-put-end-requires c κs =
-    let stands = here (c .before .before .before .before) in
-    stands-room stands 22 (search needs)
+put-end-requires c κs = stands-room (here (c .before .before .before .before)) 22 (search needs)
 
 returns : tie.Need-returns Inv-loop μ-loop
 returns c =
-    let at = c .before .before .before .before .before .before .before in
+    let put = c .before .before in
+    let held = put .before .before in
+    let at = held .before .before .before in
     let a = start at .args in
     let all : at .loop .i ≡ a .count = omega arith in
-    let holders = c .before .before .before .before .among .ensures .0 in
-    rw (sym all) (ends (a .s) (now (a .file)) (at .loop .i) (at .loop .standing) _ (now (a .room))
-    (at .loop .room) _ _ _
-    (omega (arith, start at .pre .2)) (here at) holders (c .before .before .put-end .ensures))
+    rw (sym all) (ends (a .s) (now (a .file)) (at .loop .i) (at .loop .standing) _ (now (a .room)) (at .loop .room)
+    _ _ _ (omega (arith, start at .pre .2)) (here at) (held .among .ensures .0) (put .put-end .ensures))
 
 pub run-spec : {M : Type 1} → statement M
 run-spec =
-    tie.close
-    (tie.spec
-    Inv-loop
-    μ-loop
-    (λ c κs. search needs)
-    loop-holds
-    (λ c. search needs)
-    event-of-requires
-    advance-requires
-    add-i
-    (λ c. search needs)
-    loop-again
-    among-requires
-    put-end-requires
-    (λ c. search needs)
-    (λ c. search needs)
-    (λ c. search needs)
-    returns)
+    tie.close (tie.spec Inv-loop μ-loop (λ c κs. search needs) loop-holds (λ c. search needs) event-of-requires
+    advance-requires add-i (λ c. search needs) loop-again among-requires put-end-requires (λ c. search needs)
+    (λ c. search needs) (λ c. search needs) returns)

@@ -4,14 +4,5 @@ use borrow.Author.Needs.{needs}
 use Rattle.listing.proofs.ticked.Statement.{statement}
 use Rattle.listing.proofs.ticked.Tie as tie
 
-add-result : tie.Need-add-result
-add-result c = search needs
-
-returns : tie.Need-returns
-returns c = rw (c .if1 .taken, add-one)
-
-returns-2 : tie.Need-returns-2
-returns-2 c = search needs
-
 pub ticked-spec : {M : Type 1} → statement M
-ticked-spec = tie.close (tie.spec add-result returns returns-2)
+ticked-spec = tie.close (tie.spec (λ c. search needs) (λ c. rw (c .if1 .taken, add-one)) (λ c. search needs))

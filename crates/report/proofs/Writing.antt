@@ -4,8 +4,8 @@ use Prim.Native.Nat.{ℕ, _+_, _≤_, _<_, _^_}
 use native.Mathlib.{Nat.le-refl, Omega.arith}
 use lib.ListN.{length, length-append}
 use Rattle.text.specs.{Decimal.decimal, Put.{put, Puts}}
-use Rattle.text.proofs.{Putting.{length-put, put-append}, Digits.digits-at-most}
-use Rattle.listing.specs.Writes.{Writes}
+use Rattle.text.proofs.{Putting.{length-put, put-append, puts-determined}, Digits.digits-at-most}
+use Rattle.report.specs.Writes.{Writes}
 
 -- a 16-bit number has at most five digits
 pub five-digits : (n : ℕ) → n < 2 ^ 16 → length (decimal n) ≤ 5
@@ -65,3 +65,9 @@ within p most l = record { puts = p; short = l }
 pub wider : {a : ℕ} {room text after : List ℕ} {at to : ℕ} → Writes a room at text to after → (most : ℕ) → a ≤ most
     → Writes most room at text to after
 wider w most l = let short = w .short in record { puts = w .puts; short = omega arith }
+
+-- two rooms that the contract of a line admits are equal, and so are the two indices
+pub writes-determined : (most : ℕ) (room : List ℕ) (at : ℕ) (text : List ℕ) (to to′ : ℕ) (after after′ : List ℕ)
+    → Writes most room at text to after → Writes most room at text to′ after′ → (to ≡ to′) × (after ≡ after′)
+writes-determined most room at text to to′ after after′ p q =
+    puts-determined room at text to to′ after after′ (p .puts) (q .puts)

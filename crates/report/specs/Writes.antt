@@ -1,4 +1,4 @@
--- The contract of what writes a piece of the listing.
+-- The contract of what writes a line of the listing, or a piece of one.
 use mathlib.Core.List.{List}
 use Prim.Native.Nat.{ℕ, _≤_}
 use lib.ListN.{length}
