@@ -1,5 +1,6 @@
 #!/usr/bin/env python3
-"""What the program schedule_edges must print, worked out from document 01 alone ("Schedule file" and "Numbers of refusal").
+"""What the program schedule_edges must print, worked out from document 01 ("Schedule file" and "Numbers of refusal")
+and request P3 of document 02 alone.
 
 Prints the text. With --check it compares the text, line by line, with the stored crates/schedule_edges/stdout; last line 'N passed, M failed'."""
 import os
@@ -14,8 +15,8 @@ def word(b, i):
     return b[i] + 256 * b[i + 1]
 
 
-def permitted(mode, n, k):
-    return mode in (0, 1) and 1 <= n <= 256 and 1 <= k <= 16 and k <= n
+def permitted(mode, n, k, version):
+    return mode in (0, 1) and 1 <= n <= 256 and 1 <= k <= 16 and k <= n and version in (1, 2)
 
 
 def header(b):
@@ -24,9 +25,9 @@ def header(b):
         return 8
     if b[0:3] != b'GRS':
         return 9
-    if word(b, 3) != 1:
+    if word(b, 3) not in (1, 2):
         return 10
-    if not permitted(b[5], word(b, 6), b[8]):
+    if not permitted(b[5], word(b, 6), b[8], word(b, 3)):
         return 1
     if word(b, 9) > MOST:
         return 11
@@ -41,7 +42,7 @@ def opening(b):
         return [number]
     if any(b[HEADER + 3 * i] > 2 for i in range(word(b, 9))):
         return [12]
-    return [0, b[5], word(b, 6), b[8], word(b, 9)]
+    return [0, b[5], word(b, 6), b[8], word(b, 3), word(b, 9)]
 
 
 def reading(b, at):
@@ -57,15 +58,16 @@ def reading(b, at):
     return [0, b[place], word(b, place + 1)], at + 1
 
 
-def writing(mode, n, k, numbers, room):
+def writing(mode, n, k, version, numbers, room):
     """The answer, and the room afterwards."""
-    if not permitted(mode, n, k):
+    if not permitted(mode, n, k, version):
         return [1], room
     if len(numbers) > MOST:
         return [11], room
     if any(number // 65536 > 2 for number in numbers):
         return [12], room
-    out = b'GRS' + bytes([1, 0, mode]) + n.to_bytes(2, 'little') + bytes([k]) + len(numbers).to_bytes(2, 'little')
+    out = b'GRS' + version.to_bytes(2, 'little') + bytes([mode]) + n.to_bytes(2, 'little') + bytes([k])
+    out += len(numbers).to_bytes(2, 'little')
     for number in numbers:
         out += bytes([number // 65536]) + (number % 65536).to_bytes(2, 'little')
     if len(room) < len(out):
@@ -83,10 +85,9 @@ def text():
         answer, after = reading(b, at)
         say('read', at, *answer, after)
 
-    def write(mode, n, k, numbers, room):
-        answer, after = writing(mode, n, k, numbers, room)
+    def write(mode, n, k, version, numbers, room):
+        answer, after = writing(mode, n, k, version, numbers, room)
         say('write', *answer, after.hex())
-        return after
 
     # the largest file, one event more, and one byte more or less than its length
     big = bytearray(HEADER + 3 * (MOST + 1))
@@ -124,15 +125,25 @@ def text():
         for first, last, answers in runs:
             say('byte', place, first, last, answers)
 
-    # the writer's tests in their order, and a room longer than the file
+    # the file with other versions; where it opens, it is read and written back, the same bytes
     room = bytes([170] * 22)
     events, coded, many = [0, 65537, 196607], [0, 196608, 0], [0] * (MOST + 1)
-    write(0, 2, 3, many, room[:19])
-    write(1, 2, 2, many, room[:19])
-    write(1, 2, 2, coded, room[:19])
-    write(1, 2, 2, events, room[:19])
-    write(1, 2, 2, coded, room)
-    write(1, 2, 2, events, room)
+    for version in (0, 1, 2, 3, 257, 512):
+        b = small[:3] + version.to_bytes(2, 'little') + small[5:]
+        answer = opening(b)
+        say('open', *answer)
+        if answer[0] == 0:
+            say('write', 0, len(b), (b + room[len(b):]).hex())
+
+    # the writer's tests in their order, and a room longer than the file
+    write(0, 2, 3, 1, many, room[:19])
+    write(1, 2, 2, 1, many, room[:19])
+    write(1, 2, 2, 1, coded, room[:19])
+    write(1, 2, 2, 1, events, room[:19])
+    write(1, 2, 2, 1, coded, room)
+    write(1, 2, 2, 1, events, room)
+    for version in (0, 1, 2, 3, 257):
+        write(1, 2, 2, version, events, room)
     return '\n'.join(lines) + '\n'
 
 

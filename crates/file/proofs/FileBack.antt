@@ -9,7 +9,7 @@ use Rattle.machine.specs.{Refusals.first, declared.Verdict.the-variants.Accepte
 use Rattle.counting.{specs.Counting.anyBelow, proofs.Some.{none-below, each-none}}
 use Rattle.file.specs.File.{eventNumber, readingSaid, fileLength, byteAt, settingsOf, countOf, codeAt, eventAt}
 use Rattle.file.specs.File.{codeBad, headerCases, Read, headerBytes, codeIn, eventBytes, eventsBytes, fileBytes}
-use Rattle.file.specs.File.{numberBad, writing}
+use Rattle.file.specs.File.{numberBad, writing, wordAt, wordBytes}
 use Rattle.file.specs.RoundTrip.{eventsRead, Bytes, FileComesBack}
 use Rattle.file.proofs.{Numbers.{low-of-word, high-of-word, event-of-bytes}, Refusing.letters-tested}
 use Rattle.file.proofs.Writes.{Writable, filled, writable-written}
@@ -30,23 +30,23 @@ drop-elements l i (suc n) fits =
     drop-cons l i 0 (omega arith) ∙ ap (λ (r : List ℕ). getD l i 0 ∷ r) (rw (sym (add-one i), later, same))
 
 module _ (file : List ℕ) (bytes : Bytes file) (good : Header file) where
+  -- 16 bits and then the next elements
+  word-then : (i n : ℕ) (rest : List ℕ) → rest ≡ elements file (i + 1 + 1) n
+      → wordBytes (wordAt file i) ++ rest ≡ elements file i (suc (suc n))
+  word-then i n rest e = rw (low-of-word file i (bytes i), high-of-word file i (bytes i) (bytes (i + 1)), e)
+
+  -- behind the letters: version, mode, N, k and count
+  header-fields : headerBytes (settingsOf file) (countOf file) ≡ 71 ∷ 82 ∷ 83 ∷ elements file 3 8
+  header-fields =
+      let from-k = ap (λ (l : List ℕ). byteAt file 8 ∷ l) (word-then 9 0 [] refl) in
+      let from-mode = ap (λ (l : List ℕ). byteAt file 5 ∷ l) (word-then 6 3 _ from-k) in
+      ap (λ (l : List ℕ). 71 ∷ 82 ∷ 83 ∷ l) (word-then 3 6 _ from-mode)
+
   -- the header's bytes are the file's first eleven
   header-bytes : headerBytes (settingsOf file) (countOf file) ≡ elements file 0 11
   header-bytes =
       let letters = letters-tested file .says (subst T (sym (good .letters)) tt) in
-      let one : byteAt file 3 ≡ 1 = omega (arith, good .version) in
-      let nought : byteAt file 4 ≡ 0 = omega (arith, good .version) in
-      rw (
-        letters .0,
-        letters .1,
-        letters .2,
-        one,
-        nought,
-        low-of-word file 6 (bytes 6),
-        high-of-word file 6 (bytes 6) (bytes 7),
-        low-of-word file 9 (bytes 9),
-        high-of-word file 9 (bytes 9) (bytes 10),
-      )
+      header-fields ∙ rw (letters .0, letters .1, letters .2)
 
   header-back : headerBytes (settingsOf file) (countOf file) ++ drop 11 file ≡ file
   header-back = ap (λ (l : List ℕ). l ++ drop 11 file) header-bytes ∙ sym (drop-elements file 0 11 (good .long))

@@ -3,7 +3,7 @@ use mathlib.Core.{Path.{_≡_, refl, sym, ap, _∙_}, Bool.{true, false}, List.{
 use Prim.Native.Nat.{ℕ, _+_, _≤_, _<_}
 use lib.{Dec.eqb, ListN.length}
 use borrow.Author.Tests.{ltb-false, eqb-true, not-false, le-ltb, le-leb, lt-leb, eq-eqb}
-use Rattle.machine.specs.{Settings.permitted, Refusals.first}
+use Rattle.machine.specs.{Settings.{knownVersion, permitted}, Refusals.first}
 use Rattle.machine.specs.declared.{Settings.Settings, Refusal.{Refusal, the-variants.NoEvent}}
 use Rattle.machine.specs.declared.{Verdict.{Verdict, the-variants.{Accepted, Refused}}, Opening.Opening}
 use Rattle.machine.specs.declared.Reading.{Reading}
@@ -18,7 +18,7 @@ use Rattle.file.proofs.Cases.{first-then, first-stays, first-both}
 pub record Header (file : List ℕ) : Type 0 where
   pub long : 11 ≤ length file
   pub letters : lettersRight file ≡ true
-  pub version : versionOf file ≡ 1
+  pub version : knownVersion (versionOf file) ≡ true
   pub limits : permitted (settingsOf file) ≡ true
   pub few : countOf file ≤ mostEvents
   pub whole : length file ≡ fileLength (countOf file)
@@ -29,7 +29,7 @@ header-accepted file accepted =
     record {
       long = ltb-false (length file) 11 long;
       letters = not-false (lettersRight file) letters;
-      version = eqb-true (versionOf file) 1 (not-false (eqb (versionOf file) 1) version);
+      version = not-false (knownVersion (versionOf file)) version;
       limits = not-false (permitted (settingsOf file)) limits;
       few = ltb-false mostEvents (countOf file) few;
       whole = eqb-true (length file) (fileLength (countOf file))
@@ -41,8 +41,8 @@ header-accepts file good =
     rw (
       le-ltb _ _ (good .long),
       good .letters,
-      eq-eqb _ _ (good .version),
       good .limits,
+      good .version,
       le-ltb _ _ (good .few),
       eq-eqb _ _ (good .whole),
     )

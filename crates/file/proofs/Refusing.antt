@@ -7,7 +7,7 @@ use Rattle.machine.specs.{Refusals.Case, Answers.Said, promises.Refusing.{Line,
 use Rattle.machine.specs.declared.{Settings.Settings, Verdict.{Verdict, the-variants.Accepted}, Reading.Reading}
 use Rattle.machine.proofs.refusals.Limits.{limits-tested}
 use Rattle.machine.proofs.refusals.Deciding.{Are, refused-exactly, accepted-verdict, refusal-keeps}
-use Rattle.counting.proofs.{Tested.{Tested, below, most, same, both, fails, meaning}, Some.some-below}
+use Rattle.counting.proofs.{Tested.{Tested, below, most, same, both, either, fails, meaning}, Some.some-below}
 use Rattle.file.specs.File.{lettersRight, versionOf, settingsOf, countOf, codeAt, taskAt, eventAt, codeBad}
 use Rattle.file.specs.File.{headerCases, codeCases, openVerdict, openingBy, kindOf, eventCases, eventVerdict}
 use Rattle.file.specs.File.{readBy, fileLength, fileBytes, numberBad, writeCases, writeVerdict, writtenBy}
@@ -32,7 +32,7 @@ header-are file cases lines rest = (
   λ long. (
     record { numbered = refl; tested = fails (letters-tested file) },
     λ letters. (
-      record { numbered = refl; tested = fails (same (versionOf file) 1) },
+      record { numbered = refl; tested = fails (either (same (versionOf file) 1) (same (versionOf file) 2)) },
       λ version. (
         record { numbered = refl; tested = fails (limits-tested (settingsOf file)) },
         λ fair. (

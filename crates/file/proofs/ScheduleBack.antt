@@ -1,10 +1,11 @@
 -- An accepted schedule, written and read back, gives the same settings and events.
-use mathlib.Core.{Path.{_≡_, refl, sym, ap, _∙_, subst}, Bool.false, List.{List, [], _∷_, _++_}}
+use mathlib.Core.{Path.{_≡_, refl, sym, ap, _∙_, subst}, Logic.⊎-elim, Bool.false, List.{List, [], _∷_, _++_}}
 use Prim.Native.Nat.{ℕ, zero, suc, _+_, _*_, _%_, _/_, _≤_, _<_}
 use native.Mathlib.{Nat.add-zero, Omega.arith}
 use lib.{Dec.{T, ltb}, ListN.{length, getD, take, drop, List·getD-append}, Seq.{getD-append-add, take-at, ext-getD}}
 use borrow.Author.Tests.{ltb-false, le-ltb, not-false}
-use Rattle.machine.specs.{Settings.permitted, Refusals.first, Answers.{Said, Tells}}
+use Rattle.machine.specs.{Settings.{knownVersion, permitted}, Refusals.first, Answers.{Said, Tells}}
+use Rattle.machine.specs.promises.Ranges.{WithinLimits}
 use Rattle.machine.specs.declared.{Settings.Settings, Verdict.{Verdict, the-variants.Accepted}, Opening.Opening}
 use Rattle.machine.specs.declared.Reading.{Reading}
 use Rattle.machine.proofs.refusals.{Limits.limits, Deciding.no-case}
@@ -12,7 +13,7 @@ use Rattle.counting.{specs.Counting.anyBelow, proofs.Some.{none-below, each-non
 use Rattle.file.specs.File.{mostEvents, writeCases, eventNumber, readingSaid, writingSaid, fileLength, settingsOf}
 use Rattle.file.specs.File.{countOf, codeAt, eventAt, codeBad, headerCases, opening, Read, reading, headerBytes}
 use Rattle.file.specs.File.{codeIn, eventBytes, eventsBytes, fileBytes, numberBad, writeVerdict, writtenBy}
-use Rattle.file.specs.File.{writing}
+use Rattle.file.specs.File.{writing, versionOf}
 use Rattle.file.specs.RoundTrip.{eventsRead, Carries, ScheduleComesBack}
 use Rattle.file.proofs.{Numbers.{bytes-of-word, bytes-of-event}, Lengths.length-file}
 use Rattle.file.proofs.Headers.{Header, header-accepts, opening-passed, reading-given, reading-ends}
@@ -47,9 +48,14 @@ module _ (s : Settings) (numbers : List ℕ) (good : Writable s numbers) where
   abbrev file : List ℕ
   file = fileBytes s numbers
 
+  within : WithinLimits s
+  within = limits s (subst T (sym (good .limits)) tt)
+
+  version-back : versionOf file ≡ s .version
+  version-back = bytes-of-word (s .version) (⊎-elim (λ e. omega arith) (λ e. omega arith) (within .versions))
+
   settings-back : settingsOf file ≡ s
-  settings-back = ap (λ (n : ℕ). record { mode = s .mode; n = n; k = s .k })
-      (bytes-of-word (s .n) (omega (arith, limits s (subst T (sym (good .limits)) tt) .n-most)))
+  settings-back = rw (version-back, bytes-of-word (s .n) (omega (arith, within .n-most)))
 
   count-back : countOf file ≡ length numbers
   count-back = bytes-of-word (length numbers) (omega (arith, good .few))
@@ -58,7 +64,7 @@ module _ (s : Settings) (numbers : List ℕ) (good : Writable s numbers) where
   header-good = record {
     long = omega (arith, length-file s numbers);
     letters = refl;
-    version = refl;
+    version = ap knownVersion version-back ∙ ⊎-elim (ap knownVersion) (ap knownVersion) (within .versions);
     limits = ap permitted settings-back ∙ good .limits;
     few = omega (arith, count-back, good .few);
     whole = length-file s numbers ∙ ap fileLength (sym count-back);

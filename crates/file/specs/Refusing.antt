@@ -1,6 +1,7 @@
--- 00, demand 1, and 01, "Schedule file": what opening, a reader's next event and the writer are refused by, as tables
--- of plain lines in the order of the tests, and what they answer otherwise. The lines speak of the bytes themselves and
--- cite no field and no test of `specs/File`. Theorems: `each-opening`, `each-reading`, `each-writing`, `writer-takes`.
+-- 00, demand 1, 01, "Schedule file", and 02, P3: what opening, a reader's next event and the writer are refused by, as
+-- tables of plain lines in the order of the tests, and what they answer otherwise. The lines speak of the bytes
+-- themselves and cite no field and no test of `specs/File`. Theorems: `each-opening`, `each-reading`, `each-writing`,
+-- `writer-takes`.
 use mathlib.Core.{Path._≡_, Logic._⊎_, List.{List, [], _∷_}}
 use Prim.Native.Nat.{ℕ, _+_, _*_, _/_, _≤_, _<_}
 use lib.ListN.{length, getD, drop, replicate}
@@ -18,18 +19,19 @@ abbrev pub sixteen : List ℕ → ℕ → ℕ
 sixteen file i = byte file i + 256 * byte file (i + 1)
 
 -- "The three letters G, R, S; version, 16 bits, 1; mode, 1 byte; N, 16 bits; k, 1 byte; event count, 16 bits: 11
--- bytes."
+-- bytes"; 02, P3: "The settings carry the version, 1 or 2"
 abbrev pub inHeader : List ℕ → Settings
-inHeader file = record { mode = byte file 5; n = sixteen file 6; k = byte file 8 }
+inHeader file = record { mode = byte file 5; n = sixteen file 6; k = byte file 8; version = sixteen file 3 }
 
 -- ---- the tables
 
--- "shorter than 11 bytes (8), 9, 10, 1, 11, length other than 11 + 3 times count (8)"
+-- "shorter than 11 bytes (8), 9, 10, 1, 11, length other than 11 + 3 times count (8)"; 02, P3: "The settings carry the
+-- version, 1 or 2; any other value there is refused by 1, in a file by 10"
 abbrev pub headerLines : List ℕ → List Line → List Line
 headerLines file rest =
     line 8 (length file < 11)  -- file length wrong
     ∷ line 9 ((byte file 0 ≡ 0x47) × (byte file 1 ≡ 0x52) × (byte file 2 ≡ 0x53) → ⊥)  -- mark letters wrong
-    ∷ line 10 (sixteen file 3 ≡ 1 → ⊥)  -- version unknown
+    ∷ line 10 ((sixteen file 3 ≡ 1) ⊎ (sixteen file 3 ≡ 2) → ⊥)  -- version unknown
     ∷ line 1 (WithinLimits (inHeader file) → ⊥)  -- settings outside the limits
     ∷ line 11 (16384 < sixteen file 9)  -- more than 16,384 events
     ∷ line 8 (length file ≡ 11 + 3 * sixteen file 9 → ⊥)  -- file length wrong
@@ -69,7 +71,8 @@ pub record OpeningTold (file : List ℕ) : Type 0 where
   pub exactly : RefusedExactly (openingSaid (opening file)) (openLines file)
   pub answers : openingSaid (opening file) .number ≡ 0 → opening file ≡ Opening.Opened (inHeader file) (sixteen file 9)
   pub values : openingSaid (opening file) .number ≡ 0
-      → openingSaid (opening file) .values ≡ byte file 5 ∷ sixteen file 6 ∷ byte file 8 ∷ sixteen file 9 ∷ []
+      → openingSaid (opening file) .values
+      ≡ byte file 5 ∷ sixteen file 6 ∷ byte file 8 ∷ sixteen file 3 ∷ sixteen file 9 ∷ []
 
 abbrev pub EachOpening : Type 0
 EachOpening = (file : List ℕ) → OpeningTold file
@@ -112,6 +115,7 @@ pub record WritingTold (s : Settings) (numbers room : List ℕ) : Type 0 where
 abbrev pub EachWriting : Type 0
 EachWriting = (s : Settings) (numbers room : List ℕ) → WritingTold s numbers room
 
--- for every mode, N and k the schedule of no events is written, so there are accepted schedules and files
+-- for every mode, N, k and version the schedule of no events is written, so there are accepted schedules and files of
+-- both versions
 abbrev pub WriterTakes : Type 0
 WriterTakes = (s : Settings) → WithinLimits s → writingSaid (writing s [] (replicate 11 0) .answer) .number ≡ 0

@@ -1,5 +1,6 @@
 -- 00, demand 2: "An accepted schedule file read and written back gives the same bytes, and an accepted schedule written
--- and read back the same settings and events."
+-- and read back the same settings and events." The version is one of the settings, so both are over both versions:
+-- 02, P3, "both are read, run and written".
 use mathlib.Core.{Path._≡_, List.{List, [], _∷_, _++_}}
 use Prim.Native.Nat.{ℕ, zero, suc, _+_, _≤_, _<_}
 use lib.ListN.{length, getD, take, drop}
@@ -30,7 +31,7 @@ FileComesBack =
 -- a file that opens to these settings and as many events, and a reader of it gives these events one by one, then 13
 pub record Carries (s : Settings) (numbers file : List ℕ) : Type 0 where
   pub opens : opening file ≡ Opening.Opened s (length numbers)
-  pub opening-tells : Tells (openingSaid (opening file)) (s .mode ∷ s .n ∷ s .k ∷ length numbers ∷ [])
+  pub opening-tells : Tells (openingSaid (opening file)) (s .mode ∷ s .n ∷ s .k ∷ s .version ∷ length numbers ∷ [])
   pub gives : (i : ℕ) → i < length numbers → Tells (readingSaid (reading file i .answer)) (getD numbers i 0 ∷ [])
   pub moves : (i : ℕ) → i < length numbers → reading file i .at ≡ i + 1
   pub events : eventsRead file 0 (length numbers) ≡ numbers

@@ -1,14 +1,19 @@
--- 01, "What the supervisor holds": the limits of the settings, and what the mode decides.
-use mathlib.Core.Bool.{Bool, cond, _&&_}
+-- 01, "What the supervisor holds", and 02, P3: the limits of the settings, and what the mode decides.
+use mathlib.Core.Bool.{Bool, cond, _&&_, _||_}
 use Prim.Native.Nat.{ℕ}
 use lib.Dec.{eqb, leb}
 use Rattle.machine.specs.declared.Settings.{Settings}
 
--- mode 0 or 1; N from 1 to 256; k from 1 to 16 and at most N
+-- version 1 or 2
+abbrev pub knownVersion : ℕ → Bool
+knownVersion version = eqb version 1 || eqb version 2
+
+-- mode 0 or 1; N from 1 to 256; k from 1 to 16 and at most N; a known version
 abbrev pub permitted : Settings → Bool
 permitted s =
     leb (s .mode) 1
-    && (leb 1 (s .n) && (leb (s .n) 256 && (leb 1 (s .k) && (leb (s .k) 16 && leb (s .k) (s .n)))))
+    && (leb 1 (s .n)
+    && (leb (s .n) 256 && (leb 1 (s .k) && (leb (s .k) 16 && (leb (s .k) (s .n) && knownVersion (s .version))))))
 
 -- how many marks a block has: one one-time, one for each task long-lived
 abbrev pub width : Settings → ℕ

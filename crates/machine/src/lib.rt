@@ -9,11 +9,13 @@ ghost use Rattle.machine.specs.Settings.{width};
 ghost use Rattle.machine.specs.Records.{pointInRange, recordInRange};
 ghost use Rattle.machine.specs.Turn.{arrive, move, leave, pointTurned, nextRecord};
 
-// Mode 0 is one-time, mode 1 long-lived. There are n tasks, of which at most k are out at once.
+// Mode 0 is one-time, mode 1 long-lived. There are n tasks, of which at most k are out at once. Names
+// are numbered by rows in version 1 and by diagonals in version 2.
 pub struct Settings {
     pub mode: u8,
     pub n: u16,
     pub k: u8,
+    pub version: u16,
 }
 
 // A task's identifier, 0 to N-1. It is no name.

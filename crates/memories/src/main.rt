@@ -61,9 +61,10 @@ fn case_at(input: &[u8], at: usize) -> Case {
             mode: byte(input, past(at, 1)),
             n: word(input, past(at, 2)),
             k: byte(input, past(at, 4)),
+            version: word(input, past(at, 5)),
         },
-        task: TaskId(word(input, past(at, 5))),
-        count: word(input, past(at, 7)),
+        task: TaskId(word(input, past(at, 7))),
+        count: word(input, past(at, 9)),
     }
 }
 
@@ -402,9 +403,9 @@ fn serve(case: Case, records: [Record; 256], xs: &mut [u32], marks: &mut [u8]) {
 // Serves the case at a position, and says where the next one begins.
 fn next(input: &[u8], at: usize) -> usize {
     let case = case_at(input, at);
-    let x_count = word(input, past(at, 9)) as usize;
-    let mark_count = word(input, past(at, 11)) as usize;
-    let first_record = past(at, 13);
+    let x_count = word(input, past(at, 11)) as usize;
+    let mark_count = word(input, past(at, 13)) as usize;
+    let first_record = past(at, 15);
     let first_x = past(first_record, 6 * case.count as usize);
     let first_mark = past(first_x, 4 * x_count);
     let mut xs = [0u32; 128];
@@ -420,7 +421,7 @@ fn next(input: &[u8], at: usize) -> usize {
     past(first_mark, mark_count)
 }
 
-// A case has 13 bytes or more, so an input has fewer than 65,536 of them.
+// A case has 15 bytes or more, so an input has fewer than 65,536 of them.
 fn all(input: &[u8]) {
     let mut at: usize = 0;
     let mut done: usize = 0;

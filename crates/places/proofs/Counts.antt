@@ -6,7 +6,7 @@ use mir.{Syntax.{w16, w64}, Val.Fits}
 use Rattle.machine.specs.{Settings.width, Places.blocks, Memory.{marksNeeded, markIndex}, declared.Settings.Settings}
 use Rattle.machine.specs.promises.Ranges.{WithinLimits}
 use Rattle.machine.proofs.{refusals.Limits.width-most, calls.Cells.earlier-block}
-use Rattle.grid.{specs.Triangle.placeNumber, proofs.Triangle.half-most}
+use Rattle.grid.{specs.Triangle.{half, placeNumber, diagonalNumber}, proofs.Triangle.{half-most, diagonals}}
 
 -- products of the grid's numbers fit, also with one more such number added
 module _ (a b : ℕ) (small-a : a ≤ 256) (small-b : b ≤ 256) where
@@ -24,6 +24,9 @@ pub place-number-fits : (side r c : ℕ) → side ≤ 16 → r + c ≤ side → 
 unfolding placeNumber
 place-number-fits side r c small low =
     omega (arith, mul-le-mul {n₁ = r} {m₁ = side} {n₂ = 16} {m₂ = 16} (omega arith) small)
+
+pub diagonal-number-fits : (r c : ℕ) → r + c < 16 → Fits w16 (diagonalNumber r c)
+diagonal-number-fits r c low = omega (arith, diagonals 16 .below r c low, half-most 16 (omega arith))
 
 pub blocks-most : (s : Settings) → WithinLimits s → blocks s ≤ 120
 blocks-most s limit = half-most (s .k) (limit .k-most)

@@ -1,5 +1,5 @@
 // Numbers of the grid: the limits of the settings, the counts of blocks, names and marks, and the
-// numbers of places. The formula of the triangle is said once, in `place_number`.
+// numbers of places. The formula of the triangle by rows is said once, in `place_number`.
 
 use machine::Name;
 use machine::Settings;
@@ -7,11 +7,21 @@ use machine::TaskId;
 ghost use mathlib.Core.Path.{_≡_};
 ghost use Prim.Native.Nat.{_+_, _-_, _≤_, _<_};
 ghost use lib.Dec.{T};
-ghost use Rattle.machine.specs.Settings.{permitted, width, own};
-ghost use Rattle.grid.specs.Triangle.{half, placeNumber};
+ghost use Rattle.machine.specs.Settings.{knownVersion, permitted, width, own};
+ghost use Rattle.grid.specs.Triangle.{half, placeNumber, diagonalNumber};
 ghost use Rattle.machine.specs.Places.{blocks, blockNumber, names};
 ghost use Rattle.machine.specs.Memory.{marksNeeded, markIndex};
 ghost use Rattle.machine.specs.Calls.{nameAt};
+
+// Whether there is such a version.
+pub fn known_version(version: u16) -> bool
+    ensures { λ known. ⌜ known ≡ knownVersion version ⌝ }
+{
+    if version == 1 {
+        return true;
+    }
+    version == 2
+}
 
 // Whether the settings are within the limits.
 pub fn permitted(s: Settings) -> bool
@@ -35,7 +45,7 @@ pub fn permitted(s: Settings) -> bool
     if s.k as u16 > s.n {
         return false;
     }
-    true
+    known_version(s.version)
 }
 
 // The half product r(r-1)/2.
@@ -92,12 +102,24 @@ pub fn block_number(s: Settings, r: u8, c: u8) -> usize
     place_number(s, 1, r, c)
 }
 
-// The name at (r, c): the places that can be held are the triangle of side k.
+// The number of the place at (r, c), counted diagonal after diagonal.
+fn diagonal_number(r: u8, c: u8) -> usize
+    requires { ⌜ r + c + 1 ≤ 16 ⌝ }
+    ensures { λ number. ⌜ number ≡ diagonalNumber r c ⌝ }
+{
+    half(r as usize + c as usize + 1) + r as usize
+}
+
+// The name at (r, c): the places that can be held are the triangle of side k, numbered by rows in
+// version 1 and by diagonals in version 2.
 pub fn name_at(s: Settings, r: u8, c: u8) -> Name
     requires { ⌜ T (permitted s) × (r + c + 1 ≤ s .k) ⌝ }
     ensures { λ name. ⌜ name ≡ nameAt s r c ⌝ }
 {
-    Name(place_number(s, 0, r, c) as u16)
+    if s.version == 1 {
+        return Name(place_number(s, 0, r, c) as u16);
+    }
+    Name(diagonal_number(r, c) as u16)
 }
 
 // Where a mark of a block stands in the row of marks, block after block.

@@ -1,11 +1,11 @@
 -- The table of 01's starred edges, proved: the runs with fixed N and k by computing them, the open ones from what an
 -- accepted setup leaves.
-use mathlib.Core.{Path.{_≡_, refl, _∙_}, Logic.{_⊎_, inl, inr}, Bool.{Bool, true, false, cond, _&&_}}
+use mathlib.Core.{Path.{_≡_, refl, ap, _∙_}, Logic.{inl, inr, ⊎-elim}, Bool.{Bool, true, false, cond, _&&_}}
 use Prim.Native.Nat.{ℕ, _<_}
 use native.Mathlib.Omega.{arith}
 use lib.Dec.{T, eqb}
 use borrow.Author.Tests.{le-leb, lt-leb}
-use Rattle.grid.specs.Triangle.{half, placeNumber}
+use Rattle.grid.specs.Triangle.{half, placeNumber, diagonalNumber}
 use Rattle.counting.{specs.Counting.{count, firstBad}, proofs.Tested.misses}
 use Rattle.machine.specs.{Memory.Memory, Turn.arrive, Answers.isAccepted}
 use Rattle.machine.specs.Calls.{call, setup, verdictOf, standing, ask, release}
@@ -17,30 +17,34 @@ use Rattle.machine.proofs.refusals.Passed.{Fit, fit-verdict}
 use Rattle.machine.proofs.histories.Exact.{setup-takes-largest}
 use Rattle.machine.proofs.calls.Fresh.{setup-within, fresh-idle, fresh-none-out, fresh-fit}
 use Rattle.text.specs.Decimal.{decimal}
-use Rattle.printed.specs.Edges.{FiveNames, NoTurns, LoneTask, TheOtherTask, TheListing, TwoAsks, TwoOut}
-use Rattle.printed.specs.Edges.{LastIdentifier, NoRelease, NoReleaseIdle, settings, Refuses, SetupsTaken}
-use Rattle.printed.specs.Edges.{OutsideRefused, Edges}
+use Rattle.printed.specs.Edges.{FiveNames, FiveByDiagonal, NoTurns, LoneTask, TheOtherTask, TheListing}
+use Rattle.printed.specs.Edges.{TwoAsks, TwoOut, LastIdentifier, NoRelease, NoReleaseIdle, settings, named, Refuses}
+use Rattle.printed.specs.Edges.{SetupsTaken, Outside, OutsideRefused, Edges}
 use Rattle.printed.proofs.OneTimePair.{one-time-pair}
 
 five-names : FiveNames
 unfolding half placeNumber
-five-names s five = rw five (refl, refl, refl, refl, refl)
+five-names s five one = rw (five, one) (refl, refl, refl, refl, refl)
+
+five-by-diagonal : FiveByDiagonal
+unfolding half diagonalNumber
+five-by-diagonal s five two = rw (five, two) (refl, refl, refl, refl, refl)
 
 lone-task : LoneTask
-unfolding half placeNumber count firstBad
-lone-task = (refl, refl)
+unfolding half placeNumber diagonalNumber count firstBad
+lone-task = ((refl, refl), (refl, refl))
 
 the-other-task : TheOtherTask
-unfolding half placeNumber count firstBad
-the-other-task = (refl, refl)
+unfolding half placeNumber diagonalNumber count firstBad
+the-other-task = ((refl, refl), (refl, refl))
 
 the-listing : TheListing
-unfolding half placeNumber count firstBad decimal
-the-listing = (refl, refl, refl)
+unfolding half placeNumber diagonalNumber count firstBad decimal
+the-listing = ((refl, refl, refl), (refl, refl, refl))
 
 two-asks : TwoAsks
-unfolding half placeNumber count firstBad decimal
-two-asks = (refl, refl)
+unfolding half placeNumber diagonalNumber count firstBad decimal
+two-asks = ((refl, refl), (refl, refl))
 
 two-out : TwoOut
 unfolding half placeNumber count firstBad
@@ -65,10 +69,11 @@ cond-same : (b : Bool) (n : ℕ) → cond b n n ≡ n
 cond-same true n = refl
 cond-same false n = refl
 
+-- the corner has name 0 in both versions
 no-turns : NoTurns
-unfolding half placeNumber
+unfolding half placeNumber diagonalNumber
 no-turns s lent ok one p l = (
-  rw (fresh-ask s lent ok p l, one),
+  rw (fresh-ask s lent ok p l, one) (ap named (cond-same (eqb (s .version) 1) 0)),
   cond-same (isAccepted (call s (ask p) (setup s lent .memory) .answer) && eqb p p) 0,
 )
 
@@ -102,8 +107,8 @@ no-release-idle s lent ok one-time = one-time-release s (setup s lent .memory) o
 -- ---- the edges of the limits
 
 setups-taken : SetupsTaken
-setups-taken mode n k modes n-least n-most k-least k-most k-within =
-    setup-takes-largest (settings mode n k)
+setups-taken mode n k version modes n-least n-most k-least k-most k-within versions =
+    setup-takes-largest (settings mode n k version)
     (record {
       modes = zero-or-one mode .0 modes;
       n-least = n-least;
@@ -111,20 +116,24 @@ setups-taken mode n k modes n-least n-most k-least k-most k-within =
       k-least = k-least;
       k-most = k-most;
       k-within = k-within;
+      versions = versions;
     })
 
 outside-refused : OutsideRefused
 outside-refused s outside m event = rw (misses (limits-tested s) (λ l. not-within l outside)) (refl, refl)
   where
-    not-within : WithinLimits s → (s .k ≡ 17) ⊎ (((s .k ≡ 3) × (s .n ≡ 2)) ⊎ ((s .n ≡ 257) ⊎ (s .mode ≡ 2))) → ⊥
+    not-within : WithinLimits s → Outside s → ⊥
     not-within l (inl e) = omega (arith, l .k-most)
     not-within l (inr (inl (e, f))) = omega (arith, l .k-within)
     not-within l (inr (inr (inl e))) = omega (arith, l .n-most)
-    not-within l (inr (inr (inr e))) = omega (arith, mode-most s l)
+    not-within l (inr (inr (inr (inl e)))) = omega (arith, mode-most s l)
+    not-within l (inr (inr (inr (inr (inl e))))) = ⊎-elim (λ one. omega arith) (λ two. omega arith) (l .versions)
+    not-within l (inr (inr (inr (inr (inr e))))) = ⊎-elim (λ one. omega arith) (λ two. omega arith) (l .versions)
 
 pub edges : Edges
 edges = record {
   five-names = five-names;
+  five-by-diagonal = five-by-diagonal;
   no-turns = no-turns;
   lone-task = lone-task;
   the-other-task = the-other-task;

@@ -5,7 +5,7 @@ use Prim.Native.Nat.{ℕ, _≤_, _<_}
 use native.Mathlib.Omega.{arith}
 use lib.{Dec.{eqb, ltb}, ListN.{length, take}, Seq.{getD-take, length-take-le, take-all}}
 use borrow.Author.{Needs.needs, Tests.{le-ltb, ltb-true, ltb-false, ne-eqb}}
-use Rattle.machine.specs.{Refusals.{Case, when, first, outsideLimits}, Answers.numberOf}
+use Rattle.machine.specs.{Settings.knownVersion, Refusals.{Case, when, first, outsideLimits}, Answers.numberOf}
 use Rattle.machine.specs.declared.Refusal.{Refusal}
 use Rattle.machine.specs.declared.Refusal.the-variants.{Limits, FileLength, Letters, Version, TooManyEvents, EventCode}
 use Rattle.machine.specs.declared.Verdict.{Verdict, the-variants.Refused}
@@ -21,7 +21,7 @@ whyBy letters version limits many = cond letters Letters
 
 abbrev why : List ℕ → Refusal
 why file =
-    whyBy (not (lettersRight file)) (not (eqb (versionOf file) 1)) (outsideLimits (settingsOf file))
+    whyBy (not (lettersRight file)) (not (knownVersion (versionOf file))) (outsideLimits (settingsOf file))
     (ltb mostEvents (countOf file))
 
 first-of-tests : (letters version limits many wrong : Bool) (rest : List Case) → (many ≡ false → wrong ≡ true)
@@ -46,7 +46,7 @@ longer-refused : (file : List ℕ) → fileLength mostEvents < length file
 longer-refused file long =
     let header : 11 ≤ length file = omega arith in
     let letters = not (lettersRight file) in
-    let version = not (eqb (versionOf file) 1) in
+    let version = not (knownVersion (versionOf file)) in
     let limits = outsideLimits (settingsOf file) in
     let codes = when (anyBelow (codeBad file) (countOf file)) EventCode ∷ [] in
     let tests = first-of-tests letters version limits _ _ codes (length-wrong file long) in

@@ -1,9 +1,10 @@
 -- 01's edge "Mode 0, k = 2: first task name 0 in 4 turns, a later one name 1 in 2", followed call by call for every N
 -- and every two tasks.
-use mathlib.Core.{Path.{_≡_, refl, sym, ap, subst, _∙_}, List.{List, [], _∷_, _++_}}
+use mathlib.Core.{Path.{_≡_, refl, sym, ap, subst, _∙_}, Bool.{Bool, true, false, cond}}
+use mathlib.Core.List.{List, [], _∷_, _++_}
 use Prim.Native.Nat.{ℕ, suc, _+_, _≤_, _<_}
 use native.Mathlib.Omega.{arith}
-use lib.{Dec.T, ListN.{getD, set}}
+use lib.{Dec.{T, eqb}, ListN.{getD, set}}
 use Rattle.machine.specs.{Settings.{width, own}, Places.{blockNumber, nameNumber}, Records.isOut}
 use Rattle.machine.specs.Memory.{Memory, markIndex, stateOf, outOf}
 use Rattle.machine.specs.{Calls.{Outcome, eventOf, answerOf, nextState, accept, setup}, History.history}
@@ -18,7 +19,7 @@ use Rattle.machine.proofs.bridge.Arriving.{arrive-edge, arrive-block, leave-at-
 use Rattle.machine.proofs.bridge.AsGrid.{x-on-block, mark-on-block, x-put, mark-put}
 use Rattle.machine.proofs.bridge.Histories.{fresh-in-order, fresh-unmarked}
 use Rattle.machine.proofs.histories.Laps.{Took, turn-took, ask-took}
-use Rattle.grid.specs.Triangle.{half, placeNumber}
+use Rattle.grid.specs.Triangle.{half, placeNumber, diagonalNumber}
 use Rattle.printed.specs.Edges.{answersIn, acquires, servedAt, OneTimePair}
 use Rattle.counting.proofs.Counting.{count-but-one}
 
@@ -43,8 +44,14 @@ heard {s = s} {kind = kind} {p = p} {state = state} {m = m} {events = events} {r
 
 -- with k = 2 the names at (0, 0) and (0, 1) are 0 and 1
 two-names : (s : Settings) → s .k ≡ 2 → (nameNumber s 0 0 ≡ 0) × (nameNumber s 0 1 ≡ 1)
-unfolding half placeNumber
-two-names s two = rw two (refl, refl)
+unfolding half placeNumber diagonalNumber
+two-names s two = go (eqb (s .version) 1)
+  where
+    go : (one : Bool)
+        → (cond one (placeNumber (s .k) 0 0) (diagonalNumber 0 0) ≡ 0)
+        × (cond one (placeNumber (s .k) 0 1) (diagonalNumber 0 1) ≡ 1)
+    go true = rw two (refl, refl)
+    go false = (refl, refl)
 
 module _ (s : Settings) (lent : Memory) (ok : SetUp s lent) (one-time : s .mode ≡ 0) (two : s .k ≡ 2) (p q : ℕ)
     (lp : p < s .n) (lq : q < s .n)

@@ -13,8 +13,13 @@ use Rattle.machine.specs.declared.{Settings.Settings, Event.Event, Answer.{Answ
 use Rattle.text.specs.Decimal.{bytesOf}
 use Rattle.printed.specs.{EndLine.eventsOf, Listing.listing}
 
-abbrev pub settings : ℕ → ℕ → ℕ → Settings
-settings mode n k = record { mode = mode; n = n; k = k }
+-- mode, N, k and the version
+abbrev pub settings : ℕ → ℕ → ℕ → ℕ → Settings
+settings mode n k version = record { mode = mode; n = n; k = k; version = version }
+
+-- 01's figures are those of version 1; with k at most 2 the rule of version 2 numbers the places alike
+abbrev pub BothVersions : (ℕ → Type 0) → Type 0
+BothVersions Line = Line 1 × Line 2
 
 abbrev pub named : ℕ → Answer
 named n = Holds (record { 0 = n })
@@ -49,9 +54,9 @@ abbrev pub lastOf : Settings → List Event → Event → Answer
 lastOf s events event = call s event (memoryAfter s largest events) .answer
 
 -- 01's sixteen events, and its listing
-abbrev pub sample : List ℕ
-sample =
-    0x47 ∷ 0x52 ∷ 0x53 ∷ 0x01 ∷ 0x00 ∷ 0x01 ∷ 0x02 ∷ 0x00 ∷ 0x02 ∷ 0x10 ∷ 0x00
+abbrev pub sample : ℕ → List ℕ
+sample version =
+    0x47 ∷ 0x52 ∷ 0x53 ∷ version ∷ 0x00 ∷ 0x01 ∷ 0x02 ∷ 0x00 ∷ 0x02 ∷ 0x10 ∷ 0x00
     ∷ 0 ∷ 0 ∷ 0 ∷ 0 ∷ 1 ∷ 0
     ∷ 1 ∷ 0 ∷ 0 ∷ 1 ∷ 1 ∷ 0
     ∷ 1 ∷ 0 ∷ 0 ∷ 1 ∷ 0 ∷ 0 ∷ 1 ∷ 0 ∷ 0 ∷ 1 ∷ 0 ∷ 0 ∷ 1 ∷ 0 ∷ 0
@@ -69,8 +74,15 @@ sampleText =
 -- k = 5: places (0,0), (0,4), (1,0), (2,2), (4,0) have names 0, 4, 5, 11, 14
 abbrev pub FiveNames : Type 0
 FiveNames =
-    (s : Settings) → s .k ≡ 5
+    (s : Settings) → s .k ≡ 5 → s .version ≡ 1
     → (nameNumber s 0 0 ≡ 0) × (nameNumber s 0 4 ≡ 4) × (nameNumber s 1 0 ≡ 5) × (nameNumber s 2 2 ≡ 11)
+    × (nameNumber s 4 0 ≡ 14)
+
+-- 02, P3: by diagonal they have 0, 10, 2, 12, 14
+abbrev pub FiveByDiagonal : Type 0
+FiveByDiagonal =
+    (s : Settings) → s .k ≡ 5 → s .version ≡ 2
+    → (nameNumber s 0 0 ≡ 0) × (nameNumber s 0 4 ≡ 10) × (nameNumber s 1 0 ≡ 2) × (nameNumber s 2 2 ≡ 12)
     × (nameNumber s 4 0 ≡ 14)
 
 -- k = 1: ask gives name 0 after no turns
@@ -81,14 +93,15 @@ NoTurns =
 
 -- Lone task, mode 1, N = 2, k = 2: name 0 after 5 turns (N+3)
 abbrev pub LoneTask : Type 0
-LoneTask = (answers (settings 1 2 2) (acquires 0 5) ≡ servedAt 5 0)
-    × (answers (settings 1 2 2) (acquires 1 5) ≡ servedAt 5 0)
+LoneTask = BothVersions (λ version.
+    (answers (settings 1 2 2 version) (acquires 0 5) ≡ servedAt 5 0)
+    × (answers (settings 1 2 2 version) (acquires 1 5) ≡ servedAt 5 0))
 
 -- Then the other task: task 1 behind holder 0 gets name 1 in 3 turns; task 0 behind holder 1 in 4
 abbrev pub TheOtherTask : Type 0
-TheOtherTask =
-    (answers (settings 1 2 2) (acquires 0 5 ++ acquires 1 3) ≡ servedAt 5 0 ++ servedAt 3 1)
-    × (answers (settings 1 2 2) (acquires 1 5 ++ acquires 0 4) ≡ servedAt 5 0 ++ servedAt 4 1)
+TheOtherTask = BothVersions (λ version.
+    (answers (settings 1 2 2 version) (acquires 0 5 ++ acquires 1 3) ≡ servedAt 5 0 ++ servedAt 3 1)
+    × (answers (settings 1 2 2 version) (acquires 1 5 ++ acquires 0 4) ≡ servedAt 5 0 ++ servedAt 4 1))
 
 -- Mode 0, k = 2: first task name 0 in 4 turns, a later one name 1 in 2
 abbrev pub OneTimePair : Type 0
@@ -99,20 +112,22 @@ OneTimePair =
 
 -- The listing above, whose task 0 uses 6 turns, the bound for N = 2, k = 2
 abbrev pub TheListing : Type 0
-TheListing = (listing sample ≡ sampleText) × (used (settings 1 2 2) largest (eventsOf sample 9) 0 ≡ 6)
-    × (bound (settings 1 2 2) ≡ 6)
+TheListing = BothVersions (λ version.
+    (listing (sample version) ≡ sampleText)
+    × (used (settings 1 2 2 version) largest (eventsOf (sample version) 9) 0 ≡ 6)
+    × (bound (settings 1 2 2 version) ≡ 6))
 
 -- 02, P2: "With k = 2, two asks and nothing more give PEAK 2", in both modes
-abbrev pub twoAsks : ℕ → List ℕ
-twoAsks mode =
-    0x47 ∷ 0x52 ∷ 0x53 ∷ 0x01 ∷ 0x00 ∷ mode ∷ 0x02 ∷ 0x00 ∷ 0x02 ∷ 0x02 ∷ 0x00
+abbrev pub twoAsks : ℕ → ℕ → List ℕ
+twoAsks mode version =
+    0x47 ∷ 0x52 ∷ 0x53 ∷ version ∷ 0x00 ∷ mode ∷ 0x02 ∷ 0x00 ∷ 0x02 ∷ 0x02 ∷ 0x00
     ∷ 0 ∷ 0 ∷ 0 ∷ 0 ∷ 1 ∷ 0
     ∷ []
 
 abbrev pub TwoAsks : Type 0
-TwoAsks =
-    (listing (twoAsks 1) ≡ bytesOf "grid 1 2 2\n0 ask 0 seeks\n1 ask 1 seeks\nend 0 2 0\n")
-    × (listing (twoAsks 0) ≡ bytesOf "grid 0 2 2\n0 ask 0 seeks\n1 ask 1 seeks\nend 0 2 0\n")
+TwoAsks = BothVersions (λ version.
+    (listing (twoAsks 1 version) ≡ bytesOf "grid 1 2 2\n0 ask 0 seeks\n1 ask 1 seeks\nend 0 2 0\n")
+    × (listing (twoAsks 0 version) ≡ bytesOf "grid 0 2 2\n0 ask 0 seeks\n1 ask 1 seeks\nend 0 2 0\n"))
 
 -- Mode 1, N = 3, k = 2, two out, the third task's ask: 7. After one is freed: accepted. The two are both at their
 -- start, or p holds, or both hold; either is freed. Behind the holder p the other needs p + 3 turns: write X, scan to
@@ -120,14 +135,14 @@ TwoAsks =
 abbrev pub ThirdTask : ℕ → ℕ → ℕ → Type 0
 ThirdTask p q r =
     let both-hold : List Event = ask p ∷ ask q ∷ (turns 6 p ++ turns (p + 3) q) in
-    Refuses 7 (lastOf (settings 1 3 2) (ask p ∷ ask q ∷ []) (ask r))
-    × Refuses 7 (lastOf (settings 1 3 2) (ask p ∷ ask q ∷ turns 6 p) (ask r))
-    × (lastOf (settings 1 3 2) (ask p ∷ ask q ∷ (turns 6 p ++ (release p ∷ []))) (ask r) ≡ Seeks)
-    × Refuses 7 (lastOf (settings 1 3 2) both-hold (ask r))
-    × (lastOf (settings 1 3 2) both-hold (release p) ≡ Freed (record { 0 = 0 }))
-    × (lastOf (settings 1 3 2) both-hold (release q) ≡ Freed (record { 0 = 1 }))
-    × (lastOf (settings 1 3 2) (both-hold ++ (release p ∷ [])) (ask r) ≡ Seeks)
-    × (lastOf (settings 1 3 2) (both-hold ++ (release q ∷ [])) (ask r) ≡ Seeks)
+    Refuses 7 (lastOf (settings 1 3 2 1) (ask p ∷ ask q ∷ []) (ask r))
+    × Refuses 7 (lastOf (settings 1 3 2 1) (ask p ∷ ask q ∷ turns 6 p) (ask r))
+    × (lastOf (settings 1 3 2 1) (ask p ∷ ask q ∷ (turns 6 p ++ (release p ∷ []))) (ask r) ≡ Seeks)
+    × Refuses 7 (lastOf (settings 1 3 2 1) both-hold (ask r))
+    × (lastOf (settings 1 3 2 1) both-hold (release p) ≡ Freed (record { 0 = 0 }))
+    × (lastOf (settings 1 3 2 1) both-hold (release q) ≡ Freed (record { 0 = 1 }))
+    × (lastOf (settings 1 3 2 1) (both-hold ++ (release p ∷ [])) (ask r) ≡ Seeks)
+    × (lastOf (settings 1 3 2 1) (both-hold ++ (release q ∷ [])) (ask r) ≡ Seeks)
 
 abbrev pub TwoOut : Type 0
 TwoOut = ThirdTask 0 1 2 × ThirdTask 0 2 1 × ThirdTask 1 0 2 × ThirdTask 1 2 0 × ThirdTask 2 0 1 × ThirdTask 2 1 0
@@ -152,21 +167,28 @@ NoReleaseIdle =
 
 -- ---- the edges of the limits
 
--- the setups that the lines speak of are accepted: both modes, N from 1 to 256, k from 1 to 16 and at most N
+-- the setups that the lines speak of are accepted: both modes, N from 1 to 256, k from 1 to 16 and at most N, both
+-- versions
 abbrev pub SetupsTaken : Type 0
-SetupsTaken = (mode n k : ℕ) → mode ≤ 1 → 1 ≤ n → n ≤ 256 → 1 ≤ k → k ≤ 16 → k ≤ n → SetUp (settings mode n k) largest
+SetupsTaken =
+    (mode n k version : ℕ) → mode ≤ 1 → 1 ≤ n → n ≤ 256 → 1 ≤ k → k ≤ 16 → k ≤ n → (version ≡ 1) ⊎ (version ≡ 2)
+    → SetUp (settings mode n k version) largest
 
--- k = 17: 1. k = 3, N = 2: 1. N = 257: 1. So is a mode of 2. Whatever else the settings say, whatever is lent, and
--- whichever call it is
+-- k = 17: 1. k = 3, N = 2: 1. N = 257: 1. So is a mode of 2; and 02, P3: a version of 0 or 3. Whatever else the settings
+-- say, whatever is lent, and whichever call it is
+abbrev pub Outside : Settings → Type 0
+Outside s =
+    (s .k ≡ 17) ⊎ (((s .k ≡ 3) × (s .n ≡ 2)) ⊎ ((s .n ≡ 257) ⊎ ((s .mode ≡ 2)
+    ⊎ ((s .version ≡ 0) ⊎ (s .version ≡ 3)))))
+
 abbrev pub OutsideRefused : Type 0
-OutsideRefused =
-    (s : Settings) → (s .k ≡ 17) ⊎ (((s .k ≡ 3) × (s .n ≡ 2)) ⊎ ((s .n ≡ 257) ⊎ (s .mode ≡ 2)))
-    → (m : Memory) (event : Event)
+OutsideRefused = (s : Settings) → Outside s → (m : Memory) (event : Event)
     → Refuses 1 (setup s m .answer) × Refuses 1 (call s event m .answer)
 
 -- the table, whole
 pub record Edges : Type 0 where
   pub five-names : FiveNames
+  pub five-by-diagonal : FiveByDiagonal
   pub no-turns : NoTurns
   pub lone-task : LoneTask
   pub the-other-task : TheOtherTask

@@ -2,7 +2,7 @@
 use mathlib.Core.{Path.{_≡_, refl, sym, ap, _∙_}, List.{List, [], _∷_, _++_, append-assoc}}
 use Prim.Native.Nat.{ℕ, _+_, _*_, _≤_, _<_}
 use native.Mathlib.{Nat.{le-of-lt, zero-add}, Numerals.add-one, Omega.arith}
-use lib.{ListN.{length, take, drop, set, getD, length-set}, Seq.{take-suc, length-take-le, sets, length-sets, sets-eq}}
+use lib.{ListN.{length, take, drop, set, getD}, Seq.{take-suc, length-take-le, sets, sets-eq}}
 use Rattle.file.specs.File.{wordBytes, eventBytes, eventsBytes, headerBytes, fileBytes, fileLength}
 use Rattle.file.proofs.Lengths.{length-events, length-file}
 use Rattle.machine.specs.declared.Settings.{Settings}
@@ -34,22 +34,27 @@ put-behind room at byte bytes fits =
     ap (λ (l : List ℕ). put l (at + 1) bytes) (put-byte room at byte (omega arith))
     ∙ put-append room at (byte ∷ []) bytes (at + 1) refl fits
 
--- the header is six bytes, a word, a byte and a word
-pub header-put : (room : List ℕ) (s : Settings) (count : ℕ) (worded ended : List ℕ) → 11 ≤ length room
-    → worded ≡ put (sets room 0 (71 ∷ 82 ∷ 83 ∷ 1 ∷ 0 ∷ s .mode ∷ [])) 6 (wordBytes (s .n))
-    → ended ≡ put (set worded 8 (s .k)) 9 (wordBytes count)
+-- bytes at the start, then a byte and 16 bits behind them
+put-field : (room headed bytes : List ℕ) (at byte n : ℕ) → headed ≡ put room 0 bytes → at ≡ length bytes
+    → at + 3 ≤ length room
+    → put (set headed at byte) (at + 1) (wordBytes n) ≡ put room 0 (bytes ++ (byte ∷ wordBytes n))
+put-field room headed bytes at byte n is past fits =
+    let long : length headed ≡ length room = ap length is ∙ length-put room 0 bytes (omega arith) in
+    put-behind headed at byte (wordBytes n) (omega arith)
+    ∙ ap (λ (l : List ℕ). put l at (byte ∷ wordBytes n)) is
+    ∙ put-append room 0 bytes (byte ∷ wordBytes n) at (omega arith) (omega arith)
+
+-- the header is two letters, and three times a byte with 16 bits behind it: letter and version, mode and N, k and count
+pub header-put : (room : List ℕ) (s : Settings) (count : ℕ) (versioned numbered ended : List ℕ) → 11 ≤ length room
+    → versioned ≡ put (sets room 0 (71 ∷ 82 ∷ 83 ∷ [])) 3 (wordBytes (s .version))
+    → numbered ≡ put (set versioned 5 (s .mode)) 6 (wordBytes (s .n))
+    → ended ≡ put (set numbered 8 (s .k)) 9 (wordBytes count)
     → ended ≡ put room 0 (headerBytes s count)
-header-put room s count worded ended fits word end =
-    let start : List ℕ = sets room 0 (71 ∷ 82 ∷ 83 ∷ 1 ∷ 0 ∷ s .mode ∷ []) in
-    let long : length start ≡ length room = length-sets room 0 (71 ∷ 82 ∷ 83 ∷ 1 ∷ 0 ∷ s .mode ∷ []) in
-    let first : worded ≡ sets start 6 (wordBytes (s .n)) =
-    word ∙ sym (stores-put start 6 (wordBytes (s .n)) (omega arith)) in
-    let long-2 : length (set worded 8 (s .k)) ≡ length room =
-    length-set worded 8 (s .k) ∙ ap length first ∙ length-sets start 6 (wordBytes (s .n)) ∙ long in
-    end
-    ∙ sym (stores-put (set worded 8 (s .k)) 9 (wordBytes count) (omega arith))
-    ∙ ap (λ (l : List ℕ). sets (set l 8 (s .k)) 9 (wordBytes count)) first
-    ∙ stores-put room 0 (headerBytes s count) fits
+header-put room s count versioned numbered ended fits version n end =
+    let letters = stores-put room 0 (71 ∷ 82 ∷ []) (omega arith) in
+    let first = version ∙ put-field room _ (71 ∷ 82 ∷ []) 2 83 (s .version) letters refl (omega arith) in
+    let second = n ∙ put-field room versioned _ 5 (s .mode) (s .n) first refl (omega arith) in
+    end ∙ put-field room numbered _ 8 (s .k) count second refl (omega arith)
 
 -- the events before i take 3 bytes each
 length-before : (numbers : List ℕ) (i : ℕ) → i ≤ length numbers → length (eventsBytes (take i numbers)) ≡ 3 * i

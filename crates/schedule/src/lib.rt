@@ -64,6 +64,7 @@ fn settings(file: &[u8]) -> Settings
         mode: file[5],
         n: word(file, 6),
         k: file[8],
+        version: word(file, 3),
     }
 }
 
@@ -77,7 +78,7 @@ fn header(file: &[u8]) -> Verdict
     if !letters(file) {
         return Verdict::Refused(Refusal::Letters);
     }
-    if word(file, 3) != 1 {
+    if !places::known_version(word(file, 3)) {
         return Verdict::Refused(Refusal::Version);
     }
     if !places::permitted(settings(file)) {
@@ -250,8 +251,7 @@ fn put_header(room: &mut [u8], s: Settings, count: u16)
     room[0] = b'G';
     room[1] = b'R';
     room[2] = b'S';
-    room[3] = 1;
-    room[4] = 0;
+    put_word(room, 3, s.version as u32);
     room[5] = s.mode;
     put_word(room, 6, s.n as u32);
     room[8] = s.k;

@@ -26,6 +26,17 @@ fn code(event: Event) -> u64 {
     }
 }
 
+// The number of an event: code times 65,536 plus identifier.
+fn numbered(event: Event) -> u32 {
+    let kind = event.kind;
+    let task = event.task.0 as u32;
+    match kind {
+        Kind::Ask => task,
+        Kind::Turn => 65536 + task,
+        Kind::Release => 131072 + task,
+    }
+}
+
 fn wide(byte: u8) -> u64 {
     byte as u64
 }
@@ -39,7 +50,7 @@ fn end() {
     io::write_all(STDOUT_FILENO, b"\n");
 }
 
-// open ANSWER, with mode, N, k and count where the file is accepted.
+// open ANSWER, with mode, N, k, version and count where the file is accepted.
 fn open(file: &[u8]) {
     io::write_all(STDOUT_FILENO, b"open");
     let opening = schedule::open(file);
@@ -49,6 +60,7 @@ fn open(file: &[u8]) {
             say(settings.mode as u64);
             say(settings.n as u64);
             say(settings.k as u64);
+            say(settings.version as u64);
             say(count as u64);
         }
         Opening::Refused(why) => say(number(why)),
@@ -169,6 +181,55 @@ fn write(s: Settings, events: &[u32], room: &mut [u8]) {
     end();
 }
 
+// The number of the event at a position of a file, 0 where none is given.
+fn event(file: &[u8], at: usize) -> u32 {
+    let next = schedule::read(file, at);
+    let answer = next.answer;
+    match answer {
+        Reading::Given(event) => numbered(event),
+        Reading::Refused(_) => 0,
+    }
+}
+
+// A file of three events with another version: opening, and what it gives read and written back.
+fn version(mut file: [u8; 20], low: u8, high: u8) {
+    file[3] = low;
+    file[4] = high;
+    open(&file);
+    let opening = schedule::open(&file);
+    match opening {
+        Opening::Opened { settings, count: _ } => {
+            let events = [event(&file, 0), event(&file, 1), event(&file, 2)];
+            let mut room = [170u8; 22];
+            write(settings, &events, &mut room);
+        }
+        Opening::Refused(_) => {}
+    }
+}
+
+// Versions 0 to 3, and two whose high byte is not 0.
+fn versions(file: [u8; 20]) {
+    version(file, 0, 0);
+    version(file, 1, 0);
+    version(file, 2, 0);
+    version(file, 3, 0);
+    version(file, 1, 1);
+    version(file, 0, 2);
+}
+
+// The writer with settings of a version.
+fn version_written(version: u16) {
+    let events = [0, 65537, 196607];
+    let mut room = [170u8; 22];
+    let s = Settings {
+        mode: 1,
+        n: 2,
+        k: 2,
+        version: version,
+    };
+    write(s, &events, &mut room);
+}
+
 // The largest file, one event more, and one byte more or less than its length.
 fn largest() {
     let mut file = [0u8; 49166];
@@ -231,6 +292,7 @@ fn small() {
         changed(file, place);
         place += 1;
     }
+    versions(file);
 }
 
 fn writes() {
@@ -238,11 +300,13 @@ fn writes() {
         mode: 1,
         n: 2,
         k: 2,
+        version: 1,
     };
     let bad = Settings {
         mode: 0,
         n: 2,
         k: 3,
+        version: 1,
     };
     let mut short = [170u8; 19];
     let mut room = [170u8; 22];
@@ -255,6 +319,11 @@ fn writes() {
     write(good, &events, &mut short);
     write(good, &coded, &mut room);
     write(good, &events, &mut room);
+    version_written(0);
+    version_written(1);
+    version_written(2);
+    version_written(3);
+    version_written(257);
 }
 
 fn main() {

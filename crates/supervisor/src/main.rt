@@ -14,12 +14,13 @@ use machine::Settings;
 use machine::State;
 use machine::TaskId;
 
-// Long-lived, four channels, two of them out at once.
+// Long-lived, four channels, two of them out at once, names by diagonal.
 fn board() -> Settings {
     Settings {
         mode: 1,
         n: 4,
         k: 2,
+        version: 2,
     }
 }
 

@@ -143,9 +143,7 @@ fn seeks_or_holds(rules: &dyn Rules, settings: Settings, record: Record) -> Answ
 
 /// Tests 1 and 2: the settings, then the lengths of the rows.
 fn test_rows(rules: &dyn Rules, settings: Settings, memory: &Memory) -> Result<Needed, Refusal> {
-    if !settings.allowed() {
-        return Err(Refusal::Settings);
-    }
+    rules.test_settings(settings)?;
     let needed = Needed::new(rules, settings);
     if memory.records.len() < needed.records
         || memory.registers.x.len() < needed.x

@@ -1,6 +1,8 @@
 //! 01, "What the supervisor holds" and "Memory that is lent": settings, places and names, records
 //! and their ranges, the shared registers.
 
+use std::fmt;
+
 /// A task's identifier; a call may be given any, those below N are tasks.
 #[derive(Clone, Copy, PartialEq, Eq, Debug)]
 pub struct Identifier(pub u32);
@@ -14,6 +16,14 @@ pub struct Settings {
     pub mode: u8,
     pub n: u16,
     pub k: u8,
+    pub version: u16,
+}
+
+impl fmt::Display for Settings {
+    fn fmt(&self, text: &mut fmt::Formatter) -> fmt::Result {
+        let Settings { mode, n, k, version } = self;
+        write!(text, "mode {mode} N {n} k {k} version {version}")
+    }
 }
 
 /// r(r-1)/2.
@@ -22,12 +32,22 @@ fn pairs(r: usize) -> usize {
 }
 
 impl Settings {
-    pub fn new(mode: u8, n: u16, k: u8) -> Settings {
-        Settings { mode, n, k }
+    /// Settings of version 1.
+    pub const fn new(mode: u8, n: u16, k: u8) -> Settings {
+        Settings { mode, n, k, version: 1 }
+    }
+
+    pub const fn of_version(self, version: u16) -> Settings {
+        Settings { version, ..self }
+    }
+
+    pub fn version_known(self) -> bool {
+        matches!(self.version, 1 | 2)
     }
 
     pub fn allowed(self) -> bool {
-        self.mode <= 1
+        self.version_known()
+            && self.mode <= 1
             && (1..=256).contains(&self.n)
             && (1..=16).contains(&self.k)
             && u16::from(self.k) <= self.n
@@ -67,10 +87,15 @@ impl Settings {
         r * (self.k() - 1) - pairs(r) + usize::from(place.c)
     }
 
-    /// The name at a place with r+c <= k-1.
+    /// The name at a place with r+c <= k-1: counted by rows, in version 2 by diagonals (02, P3).
     pub fn name(self, place: Place) -> Name {
-        let r = usize::from(place.r);
-        Name((r * self.k() - pairs(r) + usize::from(place.c)) as u32)
+        let (r, d) = (usize::from(place.r), place.diagonal());
+        let name = if self.version == 2 {
+            pairs(d + 1) + r
+        } else {
+            r * self.k() - pairs(r) + usize::from(place.c)
+        };
+        Name(name as u32)
     }
 
     /// Whether the place is a block: r+c <= k-2.

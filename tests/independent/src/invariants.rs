@@ -42,7 +42,7 @@ pub fn run(seed: u64, count: u64) -> (usize, usize) {
     let worst = worst::settings();
     for settings in &worst {
         for last in LastWriter::BOTH {
-            check(&format!("worst {settings:?} {last:?}"), check_worst(*settings, last));
+            check(&format!("worst {settings} {last:?}"), check_worst(*settings, last));
         }
     }
     println!("{} settings with their worst schedules, in two forms", worst.len());
@@ -58,7 +58,7 @@ pub fn run(seed: u64, count: u64) -> (usize, usize) {
         (0, 4, 3),
     ] {
         let settings = Settings::new(mode, n, k);
-        check(&format!("reachable {settings:?}"), check_reachable(settings));
+        check(&format!("reachable {settings}"), check_reachable(settings));
     }
     (checks - failures.len(), failures.len())
 }
@@ -163,7 +163,6 @@ fn check_reachable(settings: Settings) -> Result<(), String> {
             }
         }
     }
-    let Settings { mode, n, k } = settings;
-    println!("mode {mode} N {n} k {k}: all {} states that can be reached", seen.len());
+    println!("{settings}: all {} states that can be reached", seen.len());
     Ok(())
 }

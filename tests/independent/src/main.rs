@@ -29,9 +29,9 @@ independent list FILE
     prints the listing of a schedule file
 independent gridlist [--variant NAME]
     prints the listing of standard input, by the grid or by a variant
-independent make MODE N K EVENTS...
-    writes a schedule file, e.g. make 1 2 2 ask 0 turn 0 free 0
-independent worst MODE N K
+independent make [--version V] MODE N K EVENTS...
+    writes a schedule file, e.g. make 1 2 2 ask 0 turn 0 free 0; of version 1 if none is given
+independent worst [--version V] MODE N K
     writes the worst schedule, or as much of it as fits a file
 independent calls [--seed S]
     prints calls on arbitrary memories with their answers
@@ -83,12 +83,15 @@ fn run(words: &[&str]) -> Result<ExitCode, String> {
         ["list", file] => print(listing(&Grid, &read_file(file)?).as_bytes()),
         ["gridlist"] => list_input("grid"),
         ["gridlist", "--variant", name] => list_input(name),
-        ["make", mode, n, k, events @ ..] => {
-            let file = file_of(settings(mode, n, k)?, &events_of(events)?);
+        ["make", words @ ..] => {
+            let (settings, events) = settings(words)?;
+            let file = file_of(settings, &events_of(events)?);
             print(&file.map_err(|refusal| refusal.to_string())?)
         }
-        ["worst", mode, n, k] => {
-            let settings = settings(mode, n, k)?;
+        ["worst", words @ ..] => {
+            let (settings, []) = settings(words)? else {
+                return Err(USAGE.to_string());
+            };
             if !settings.allowed() {
                 return Err("refused 1".to_string());
             }
@@ -149,8 +152,17 @@ fn number<T: std::str::FromStr>(word: &str) -> Result<T, String> {
     word.parse().map_err(|_| format!("'{word}' is no number that fits here"))
 }
 
-fn settings(mode: &str, n: &str, k: &str) -> Result<Settings, String> {
-    Ok(Settings::new(number(mode)?, number(n)?, number(k)?))
+/// The settings `[--version V] MODE N K`, and the words after them.
+fn settings<'a>(words: &'a [&'a str]) -> Result<(Settings, &'a [&'a str]), String> {
+    let (version, words) = match words {
+        ["--version", version, words @ ..] => (number(version)?, words),
+        _ => (1, words),
+    };
+    let [mode, n, k, words @ ..] = words else {
+        return Err(USAGE.to_string());
+    };
+    let settings = Settings::new(number(mode)?, number(n)?, number(k)?);
+    Ok((settings.of_version(version), words))
 }
 
 /// The events of `ask 0 turn 0 free 0`.

@@ -25,6 +25,15 @@ pub trait Rules: Sync {
         }
     }
 
+    /// Test 1.
+    fn test_settings(&self, settings: Settings) -> Result<(), Refusal> {
+        if settings.allowed() {
+            Ok(())
+        } else {
+            Err(Refusal::Settings)
+        }
+    }
+
     fn name(&self, settings: Settings, place: Place) -> Name {
         settings.name(place)
     }

@@ -83,10 +83,11 @@ fn test_header_and_length(bytes: &[u8]) -> Result<Opened, Refusal> {
     if &bytes[..3] != b"GRS" {
         return Err(Refusal::Letters);
     }
-    if word_at(bytes, 3) != 1 {
+    let settings =
+        Settings::new(bytes[5], word_at(bytes, 6), bytes[8]).of_version(word_at(bytes, 3));
+    if !settings.version_known() {
         return Err(Refusal::Version);
     }
-    let settings = Settings::new(bytes[5], word_at(bytes, 6), bytes[8]);
     if !settings.allowed() {
         return Err(Refusal::Settings);
     }
@@ -146,17 +147,17 @@ pub fn write(settings: Settings, numbers: &[u32], room: &mut [u8]) -> Result<usi
     if numbers.iter().any(|number| Event::from_number(*number).is_none()) {
         return Err(Refusal::EventCode);
     }
-    let bytes = file_bytes(1, settings, numbers.len() as u16, numbers);
+    let bytes = file_bytes(settings, numbers.len() as u16, numbers);
     let file = room.get_mut(..bytes.len()).ok_or(Refusal::OutputRoom)?;
     file.copy_from_slice(&bytes);
     Ok(bytes.len())
 }
 
 /// The bytes of a file with these fields, good or bad; an event's code is its number's third byte.
-pub fn file_bytes(version: u16, settings: Settings, count: u16, numbers: &[u32]) -> Vec<u8> {
+pub fn file_bytes(settings: Settings, count: u16, numbers: &[u32]) -> Vec<u8> {
     let mut bytes = Vec::with_capacity(HEADER_BYTES + EVENT_BYTES * numbers.len());
     bytes.extend_from_slice(b"GRS");
-    bytes.extend_from_slice(&version.to_le_bytes());
+    bytes.extend_from_slice(&settings.version.to_le_bytes());
     bytes.push(settings.mode);
     bytes.extend_from_slice(&settings.n.to_le_bytes());
     bytes.push(settings.k);

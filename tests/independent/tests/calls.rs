@@ -29,9 +29,10 @@ fn a_case_byte_for_byte() {
     ];
     let registers = Registers { x: vec![1, 65_537, 0xFEDC_BA98], marks: vec![0, 1, 255, 2, 0] };
     let before = Memory { records, registers };
-    let case = CallCase::new(&Grid, "", Settings::new(1, 259, 4), before, Call::Turn(772));
+    let settings = Settings::new(1, 259, 4).of_version(1_541);
+    let case = CallCase::new(&Grid, "", settings, before, Call::Turn(772));
     let due = [
-        &[1, 1, 3, 1, 4, 4, 3, 8, 0, 3, 0, 5, 0][..],
+        &[1, 1, 3, 1, 4, 5, 6, 4, 3, 8, 0, 3, 0, 5, 0][..],
         &[1, 1, 2, 1, 2, 1],
         &[2, 3, 4, 0, 0, 0],
         &[0, 0, 0, 0, 0, 0],
@@ -47,14 +48,14 @@ fn a_case_byte_for_byte() {
     let empty = Memory { records: vec![], registers: Registers { x: vec![], marks: vec![] } };
     for (call, code, low) in [(Call::Ask(9), 0, 9), (Call::Release(9), 2, 9), (Call::Setup, 3, 0)] {
         let case = CallCase::new(&Grid, "", Settings::new(0, 1, 1), empty.clone(), call);
-        assert_eq!(pack(&case), [code, 0, 1, 0, 1, low, 0, 0, 0, 0, 0, 0, 0]);
+        assert_eq!(pack(&case), [code, 0, 1, 0, 1, 1, 0, low, 0, 0, 0, 0, 0, 0, 0]);
         assert_eq!(case.outcome(), "answer refused 2\nrecords\nx\nmarks\n");
     }
 }
 
 #[test]
 fn an_outcome_letter_for_letter() {
-    let input = [1, 1, 2, 0, 2, 1, 0, 3, 0, 1, 0, 2, 0]
+    let input = [1, 1, 2, 0, 2, 2, 0, 1, 0, 3, 0, 1, 0, 2, 0]
         .into_iter()
         .chain([0, 0, 0, 0, 0, 0, 1, 0, 0, 0, 0, 0, 2, 9, 9, 0, 0, 0])
         .chain([1, 0, 0, 0, 0, 1])
@@ -65,7 +66,7 @@ fn an_outcome_letter_for_letter() {
     assert_eq!(outcomes(&Grid, &two).unwrap(), due.repeat(2));
     assert_eq!(outcomes(&Grid, &[]).unwrap(), "");
     assert!(outcomes(&Grid, &input[..input.len() - 1]).is_err());
-    for (index, value) in [(0, 4), (13, 3), (22, 6)] {
+    for (index, value) in [(0, 4), (15, 3), (24, 6)] {
         let mut bad = input.clone();
         bad[index] = value;
         assert!(outcomes(&Grid, &bad).is_err());

@@ -1,4 +1,6 @@
-//! 01, "Both sides of each edge".
+//! 01, "Both sides of each edge", and the edges of 02.
+
+use std::collections::BTreeSet;
 
 use independent::calls::Answer;
 use independent::grid::{Name, Place, Settings};
@@ -39,6 +41,29 @@ fn names_at_k_5() {
     let names =
         [(0, 0), (0, 4), (1, 0), (2, 2), (4, 0)].map(|(r, c)| settings.name(Place { r, c }).0);
     assert_eq!(names, [0, 4, 5, 11, 14]);
+}
+
+/// 02, P3: d(d+1)/2 + r.
+#[test]
+fn names_by_diagonal_at_k_5() {
+    let settings = Settings::new(1, 5, 5).of_version(2);
+    let names = [(0, 0), (0, 1), (1, 0), (0, 4), (2, 2), (4, 0)]
+        .map(|(r, c)| settings.name(Place { r, c }).0);
+    assert_eq!(names, [0, 1, 2, 10, 12, 14]);
+}
+
+#[test]
+fn both_versions_number_each_place_once() {
+    for k in 1..=16u8 {
+        let settings = Settings::new(0, 16, k);
+        let places: Vec<Place> =
+            (0..k).flat_map(|d| (0..=d).map(move |r| Place { r, c: d - r })).collect();
+        let by_diagonal = places.iter().map(|place| settings.of_version(2).name(*place).0);
+        assert!(by_diagonal.eq(0..settings.names() as u32));
+        let by_row = places.iter().map(|place| settings.name(*place).0);
+        assert_eq!(by_row.collect::<BTreeSet<u32>>().len(), settings.names());
+        assert!(places.iter().all(|place| (settings.name(*place).0 as usize) < settings.names()));
+    }
 }
 
 #[test]
@@ -124,5 +149,8 @@ fn settings_about_the_limits() {
     let allowed = |mode, n, k| Settings::new(mode, n, k).allowed();
     assert!(allowed(0, 1, 1) && allowed(1, 256, 16) && allowed(1, 16, 16));
     assert!(!allowed(1, 256, 17) && !allowed(0, 2, 3) && !allowed(1, 257, 2));
+    let of_version = |version| Settings::new(1, 2, 2).of_version(version).allowed();
+    assert!(of_version(1) && of_version(2));
+    assert!([0, 3, 256, 257, 258, 65_535].into_iter().all(|version| !of_version(version)));
     assert!(!allowed(2, 2, 2) && !allowed(0, 0, 0) && !allowed(0, 1, 0) && !allowed(1, 0, 1));
 }

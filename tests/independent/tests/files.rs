@@ -8,24 +8,30 @@ use independent::schedule::{
     file_bytes, file_of, open, read_all, write, Event, Kind, Opened, Reader, LARGEST_FILE,
 };
 
-const GOOD: Settings = Settings { mode: 1, n: 2, k: 2 };
-const BAD: Settings = Settings { mode: 1, n: 2, k: 3 };
+const GOOD: Settings = Settings::new(1, 2, 2);
+const BAD: Settings = Settings::new(1, 2, 3);
 const BAD_CODE: u32 = 3 * 65_536;
 
 #[test]
 fn opening_tests_in_their_order() {
-    let mut bytes = file_bytes(2, BAD, 16_385, &[BAD_CODE]);
+    let mut bytes = file_bytes(BAD.of_version(3), 16_385, &[BAD_CODE]);
     bytes[0] = b'g';
     assert_eq!(open(&bytes[..10]), Err(Refusal::FileLength));
     assert_eq!(open(&bytes), Err(Refusal::Letters));
-    assert_eq!(open(&file_bytes(2, BAD, 16_385, &[BAD_CODE])), Err(Refusal::Version));
-    assert_eq!(open(&file_bytes(1, BAD, 16_385, &[BAD_CODE])), Err(Refusal::Settings));
-    assert_eq!(open(&file_bytes(1, GOOD, 16_385, &[BAD_CODE])), Err(Refusal::EventCount));
-    assert_eq!(open(&file_bytes(1, GOOD, 2, &[BAD_CODE])), Err(Refusal::FileLength));
-    assert_eq!(open(&file_bytes(1, GOOD, 1, &[BAD_CODE])), Err(Refusal::EventCode));
-    let opened = Opened { settings: GOOD, count: 1 };
-    assert_eq!(open(&file_bytes(1, GOOD, 1, &[65_535])), Ok(opened));
-    assert_eq!(open(&file_bytes(257, GOOD, 0, &[])), Err(Refusal::Version));
+    for version in [0, 3, 255, 256, 257, 258, 65_535] {
+        let (good, bad) = (GOOD.of_version(version), BAD.of_version(version));
+        assert_eq!(open(&file_bytes(good, 0, &[])), Err(Refusal::Version));
+        assert_eq!(open(&file_bytes(bad, 16_385, &[BAD_CODE])), Err(Refusal::Version));
+    }
+    for version in [1, 2] {
+        let (good, bad) = (GOOD.of_version(version), BAD.of_version(version));
+        assert_eq!(open(&file_bytes(bad, 16_385, &[BAD_CODE])), Err(Refusal::Settings));
+        assert_eq!(open(&file_bytes(good, 16_385, &[BAD_CODE])), Err(Refusal::EventCount));
+        assert_eq!(open(&file_bytes(good, 2, &[BAD_CODE])), Err(Refusal::FileLength));
+        assert_eq!(open(&file_bytes(good, 1, &[BAD_CODE])), Err(Refusal::EventCode));
+        let opened = Opened { settings: good, count: 1 };
+        assert_eq!(open(&file_bytes(good, 1, &[65_535])), Ok(opened));
+    }
 }
 
 #[test]
@@ -51,7 +57,7 @@ fn reader_gives_one_event_after_another() {
 
 #[test]
 fn bad_code_stops_a_reader_only_there() {
-    let bytes = file_bytes(1, GOOD, 3, &[65_536, BAD_CODE, 1]);
+    let bytes = file_bytes(GOOD, 3, &[65_536, BAD_CODE, 1]);
     let mut reader = Reader { bytes: &bytes, position: 0 };
     assert_eq!(reader.next_event(), Ok(Event::new(Kind::Turn, 0)));
     assert_eq!(reader.next_event(), Err(Refusal::EventCode));
@@ -66,7 +72,9 @@ fn bad_code_stops_a_reader_only_there() {
 fn writer_tests_in_their_order_and_leaves_the_rest_of_the_room() {
     let too_many = vec![BAD_CODE; 16_385];
     let mut room = [7; 20];
-    assert_eq!(write(BAD, &too_many, &mut room), Err(Refusal::Settings));
+    for settings in [BAD, BAD.of_version(2), GOOD.of_version(0), GOOD.of_version(3)] {
+        assert_eq!(write(settings, &too_many, &mut room), Err(Refusal::Settings));
+    }
     assert_eq!(write(GOOD, &too_many, &mut room), Err(Refusal::EventCount));
     assert_eq!(write(GOOD, &[0, u32::MAX], &mut room[..10]), Err(Refusal::EventCode));
     assert_eq!(write(GOOD, &[0, 1, 2, 3], &mut room), Err(Refusal::OutputRoom));
@@ -75,6 +83,9 @@ fn writer_tests_in_their_order_and_leaves_the_rest_of_the_room() {
     let file = [b'G', b'R', b'S', 1, 0, 1, 2, 0, 2, 2, 0, 2, 1, 0, 0, 0, 1];
     assert_eq!(room[..17], file);
     assert_eq!(room[17..], [7; 3]);
+    assert_eq!(write(GOOD.of_version(2), &[], &mut room), Ok(11));
+    assert_eq!(room[..11], [b'G', b'R', b'S', 2, 0, 1, 2, 0, 2, 0, 0]);
+    assert_eq!(room[11..17], file[11..]);
 }
 
 #[test]

@@ -32,7 +32,8 @@ fn cases_have_every_name_of_every_grid_and_every_refusal() {
             match words[..] {
                 [_, _, _, "holds", name] => {
                     let settings = settings.unwrap();
-                    names.insert((settings.mode, settings.k, name.parse::<usize>().unwrap()));
+                    let Settings { mode, k, version, .. } = settings;
+                    names.insert((mode, k, version, name.parse::<usize>().unwrap()));
                 }
                 [.., "refused", number] => {
                     refusals.insert(number.parse::<u8>().unwrap());
@@ -42,7 +43,7 @@ fn cases_have_every_name_of_every_grid_and_every_refusal() {
         }
     }
     let all: usize = (1..=16).map(|k| Settings::new(1, 16, k).names()).sum();
-    assert_eq!(names.len(), 2 * all);
+    assert_eq!(names.len(), 4 * all);
     let due = [1, 4, 5, 7, 8, 9, 10, 11, 12, 15, 16, 17];
     assert_eq!(refusals.into_iter().collect::<Vec<u8>>(), due);
 }
@@ -65,10 +66,12 @@ fn random_cases_have_the_edges() {
             seen.insert("bad file");
             continue;
         };
-        let Settings { mode, n, k } = settings;
+        let Settings { mode, n, k, version } = settings;
         let edges = [
             (mode == 0, "mode 0"),
             (mode == 1, "mode 1"),
+            (version == 1, "version 1"),
+            (version == 2, "version 2"),
             (k == 1, "k = 1"),
             (u16::from(k) == n, "k = N"),
             (n == 1, "N = 1"),
@@ -81,7 +84,7 @@ fn random_cases_have_the_edges() {
         ];
         seen.extend(edges.iter().filter(|(is, _)| *is).map(|(_, name)| *name));
     }
-    assert_eq!(seen.len(), 12, "{seen:?}");
+    assert_eq!(seen.len(), 14, "{seen:?}");
 }
 
 #[test]

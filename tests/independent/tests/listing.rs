@@ -1,6 +1,7 @@
 //! The listing of 01 byte for byte, and what bad and empty files print.
 
 use independent::generate::edges::listing_of_01;
+use independent::generate::worst::{in_order, worst_schedule, LastWriter};
 use independent::grid::Settings;
 use independent::listing::listing;
 use independent::rules::Grid;
@@ -53,6 +54,16 @@ fn bad_file_prints_its_refusal_only() {
 fn file_without_events() {
     let file = file_of(Settings::new(0, 256, 16), &[]).unwrap();
     assert_eq!(listing(&Grid, &file), "grid 0 256 16\nend 0 0 0\n");
+}
+
+/// 02, P3: version 2 changes names only, and the first line does not tell it.
+#[test]
+fn version_2_names_by_diagonal() {
+    let settings = Settings::new(0, 3, 3);
+    let events = worst_schedule(settings, &in_order(3), LastWriter::Holds);
+    let text = |version| listing(&Grid, &file_of(settings.of_version(version), &events).unwrap());
+    assert!(text(1).starts_with("grid 0 3 3\n") && text(1).contains("turn 1 holds 3\n"));
+    assert_eq!(text(2), text(1).replace("turn 1 holds 3\n", "turn 1 holds 2\n"));
 }
 
 /// 02, P2: PEAK is the greatest number out, also where no name is given.

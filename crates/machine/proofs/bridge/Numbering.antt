@@ -1,8 +1,10 @@
--- Names are a triangle of side k, blocks one of side k - 1.
-use mathlib.Core.Path.{_≡_, ap, _∙_}
+-- Names are a triangle of side k, by rows or by diagonals; blocks are one of side k - 1.
+use mathlib.Core.{Path.{_≡_, ap, _∙_}, Bool.cond}
 use Prim.Native.Nat.{ℕ, suc, _+_, _-_, _*_, _≤_}
-use native.Mathlib.{Nat.mul-suc, Numerals.add-one, Omega.arith}
-use Rattle.grid.{specs.Triangle.{half, Numbering}, proofs.Triangle.{half-suc, half-square, triangle}}
+use native.Mathlib.{Nat.mul-suc, Numerals.add-one, Decide.ℕ-discrete, Omega.arith}
+use borrow.Author.Tests.{ne-eqb}
+use Rattle.grid.specs.Triangle.{half, placeNumber, diagonalNumber, Numbering}
+use Rattle.grid.proofs.Triangle.{half-suc, half-square, triangle, diagonals}
 use Rattle.machine.specs.{Places.{blocks, blockNumber, names, nameNumber}, declared.Settings.Settings}
 
 pub names-half : (s : Settings) → names s ≡ half (s .k) + s .k
@@ -15,8 +17,19 @@ names-half s =
 pub blocks-half : (s : Settings) → 1 ≤ s .k → blocks s ≡ half (s .k - 1) + (s .k - 1)
 blocks-half s l = let e : s .k ≡ suc (s .k - 1) = omega arith in ap half e ∙ half-suc (s .k - 1)
 
+-- the rule of each version
+pub by-rows : (s : Settings) → s .version ≡ 1 → nameNumber s ≡ placeNumber (s .k)
+by-rows s one = rw one
+
+pub by-diagonals : (s : Settings) → (s .version ≡ 1 → ⊥) → nameNumber s ≡ diagonalNumber
+by-diagonals s other =
+    ap {B = ℕ → ℕ → ℕ} (λ one r c. cond one (placeNumber (s .k) r c) (diagonalNumber r c)) (ne-eqb (s .version) 1 other)
+
 pub name-numbering : (s : Settings) → Numbering (s .k) (nameNumber s) (names s)
-name-numbering s = rw (names-half s) (triangle (s .k))
+name-numbering s = rw (names-half s) (elim (ℕ-discrete (s .version) 1) [
+  | yes one ↦ rw (by-rows s one) (triangle (s .k))
+  | no other ↦ rw (by-diagonals s other) (diagonals (s .k))
+])
 
 pub block-numbering : (s : Settings) → 1 ≤ s .k → Numbering (s .k - 1) (blockNumber s) (blocks s)
 block-numbering s l = rw (blocks-half s l) (triangle (s .k - 1))

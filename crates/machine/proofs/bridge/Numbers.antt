@@ -1,18 +1,25 @@
 -- The numbers of blocks and names are those that 01 writes, and the tests of a state say what they are called.
-use mathlib.Core.Path.{_≡_, refl}
-use Prim.Native.Nat.{ℕ}
-use native.Mathlib.Omega.{arith}
-use Rattle.grid.specs.Triangle.{half, placeNumber}
+use mathlib.Core.Path.{_≡_, refl, ap}
+use Prim.Native.Nat.{ℕ, _+_, _-_, _*_, _/_}
+use native.Mathlib.{Nat.mul-comm, Omega.arith}
+use Rattle.grid.specs.Triangle.{half, placeNumber, diagonalNumber}
+use Rattle.machine.proofs.bridge.Numbering.{name-numbering}
 use Rattle.machine.specs.promises.Numbers.{EachNumbered, EachStateTold}
 use Rattle.machine.specs.declared.State.the-variants.{Idle, Seeking, Holding}
 
+-- half (d+1) is d(d+1)/2
+next-product : (d : ℕ) → (d + 1) * (d + 1 - 1) ≡ d * (d + 1)
+next-product d = let e : d + 1 - 1 ≡ d = omega arith in rw e (mul-comm (d + 1) d)
+
 pub places-numbered : EachNumbered
-unfolding half placeNumber
+unfolding half placeNumber diagonalNumber
 places-numbered s = record {
   block-count = refl;
   block-at = λ r c on. refl;
   name-count = refl;
-  name-at = λ r c on. refl;
+  name-by-row = λ one r c on. rw one;
+  name-by-diagonal = λ two r c on. rw two (ap (λ (n : ℕ). n / 2 + r) (next-product (r + c)));
+  each-name-once = name-numbering s;
 }
 
 -- states of two kinds are not equal

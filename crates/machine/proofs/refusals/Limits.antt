@@ -3,8 +3,8 @@ use mathlib.Core.{Path.{_≡_, refl}, Logic.{_⊎_, inl, inr, ⊎-elim, _↔_}, 
 use Prim.Native.Nat.{ℕ, zero, suc, _≤_}
 use native.Mathlib.Omega.{arith}
 use lib.Dec.{T, eqb}
-use Rattle.machine.specs.{Settings.{permitted, width}, promises.Ranges.WithinLimits, declared.Settings.Settings}
-use Rattle.counting.proofs.Tested.{Tested, most, both, meaning}
+use Rattle.machine.specs.{Settings.{knownVersion, permitted, width}, promises.Ranges.WithinLimits, declared.Settings.Settings}
+use Rattle.counting.proofs.Tested.{Tested, most, same, both, either, meaning}
 
 pub zero-or-one : (mode : ℕ) → (mode ≤ 1) ↔ ((mode ≡ 0) ⊎ (mode ≡ 1))
 zero-or-one mode = (there mode, ⊎-elim (λ e. omega arith) (λ e. omega arith))
@@ -13,22 +13,27 @@ zero-or-one mode = (there mode, ⊎-elim (λ e. omega arith) (λ e. omega arith)
     there zero l = inl refl
     there (suc mode) l = inr (omega arith)
 
--- the test, and the limits as 01 lists them
+pub version-tested : (version : ℕ) → Tested (knownVersion version) ((version ≡ 1) ⊎ (version ≡ 2))
+version-tested version = either (same version 1) (same version 2)
+
+-- the test, and the limits as 01 and 02 list them
 pub limits-tested : (s : Settings) → Tested (permitted s) (WithinLimits s)
 limits-tested s =
     meaning
     (both (meaning (most (s .mode) 1) (zero-or-one (s .mode)))
     (both (most 1 (s .n)) (both (most (s .n) 256)
-    (both (most 1 (s .k)) (both (most (s .k) 16) (most (s .k) (s .n))))))) (
-      λ (modes, (n-least, (n-most, (k-least, (k-most, k-within))))). record {
+    (both (most 1 (s .k)) (both (most (s .k) 16) (both (most (s .k) (s .n))
+    (version-tested (s .version)))))))) (
+      λ (modes, (n-least, (n-most, (k-least, (k-most, (k-within, versions)))))). record {
         modes = modes;
         n-least = n-least;
         n-most = n-most;
         k-least = k-least;
         k-most = k-most;
         k-within = k-within;
+        versions = versions;
       },
-      λ l. (l .modes, (l .n-least, (l .n-most, (l .k-least, (l .k-most, l .k-within))))),
+      λ l. (l .modes, (l .n-least, (l .n-most, (l .k-least, (l .k-most, (l .k-within, l .versions)))))),
     )
 
 pub limits : (s : Settings) → T (permitted s) → WithinLimits s

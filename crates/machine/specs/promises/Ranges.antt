@@ -1,4 +1,4 @@
--- 01, "What the supervisor holds" and "Memory that is lent": the limits of the settings, how much of each lent row is
+-- 01, "What the supervisor holds" and "Memory that is lent", with 02: the limits of the settings, how much of each lent row is
 -- needed, and which values are in range, in plain terms of numbers. None of the tests of the definitions is cited here;
 -- `refusal-exact` proves that they say the same.
 use mathlib.Core.{Path._≡_, Logic._⊎_, Bool.{Bool, true, false}}
@@ -10,7 +10,8 @@ use Rattle.machine.specs.declared.Point.{Point, the-variants.{WriteX, Sc
 use Rattle.machine.specs.declared.State.{State, the-variants.{Idle, Seeking, Holding}}
 use Rattle.machine.specs.declared.Row.{Row, the-variants.{Records, Xs, Marks}}
 
--- "mode 0 (one-time) or 1 (long-lived); N from 1 to 256; k from 1 to 16 and at most N"
+-- "mode 0 (one-time) or 1 (long-lived); N from 1 to 256; k from 1 to 16 and at most N"; 02, P3: "The settings carry the
+-- version, 1 or 2"
 pub record WithinLimits (s : Settings) : Type 0 where
   pub modes : (s .mode ≡ 0) ⊎ (s .mode ≡ 1)
   pub n-least : 1 ≤ s .n
@@ -18,6 +19,7 @@ pub record WithinLimits (s : Settings) : Type 0 where
   pub k-least : 1 ≤ s .k
   pub k-most : s .k ≤ 16
   pub k-within : s .k ≤ s .n
+  pub versions : (s .version ≡ 1) ⊎ (s .version ≡ 2)
 
 -- more than so many values of a row are needed: "at least N records"; "X numbers: one for each block, B = k(k-1)/2
 -- blocks"; marks: "B in mode 0, B times N in mode 1"

@@ -1,29 +1,51 @@
--- The name of a place is the definition's, by what `place_number` ensures at k.
+-- The name of a place is the definition's: by rows, by what `place_number` ensures at k, or by diagonals.
 use mathlib.Core.Path.{_≡_, ap}
 use Prim.Native.Nat.{ℕ}
 use native.Mathlib.Omega.{arith}
-use Rattle.grid.specs.Triangle.{placeNumber}
+use borrow.Author.Tests.{eq-eqb, ne-eqb}
+use Rattle.grid.specs.Triangle.{placeNumber, diagonalNumber}
 use Rattle.machine.{specs.{Calls.nameAt, declared.{Settings.Settings, Name.Name}}, proofs.refusals.Limits.limits}
-use Rattle.places.proofs.{Counts.place-number-fits, name_at.Statement.statement}
+use Rattle.places.proofs.{Counts.{place-number-fits, diagonal-number-fits}, name_at.Statement.statement}
 use Rattle.places.proofs.name_at.Tie as tie
 
--- the names are the numbers of the triangle of side k
-named-in-triangle : (s : Settings) (side r c : ℕ) → side ≡ s .k
+-- in version 1 the names are the numbers of the triangle of side k
+named-by-row : (s : Settings) (side r c : ℕ) → s .version ≡ 1 → side ≡ s .k
     → _≡_ {A = Name} (record { 0 = placeNumber side r c }) (nameAt s r c)
-named-in-triangle s side r c whole = ap (λ (x : ℕ). record { 0 = placeNumber x r c }) whole
+named-by-row s side r c one whole = rw (eq-eqb (s .version) 1 one, whole)
+
+named-by-diagonal : (s : Settings) (r c : ℕ) → (s .version ≡ 1 → ⊥)
+    → _≡_ {A = Name} (record { 0 = diagonalNumber r c }) (nameAt s r c)
+named-by-diagonal s r c other = rw (ne-eqb (s .version) 1 other)
 
 place-number-requires : tie.Need-place-number-requires
-place-number-requires c κs = (c .pre .0, omega arith)
+place-number-requires c κs = (c .before .before .pre .0, omega arith)
 
-cast-t5 : tie.Need-cast-t5
-cast-t5 c =
-    let limit = limits (c .before .args .s) (c .before .pre .0) in
+cast-t6 : tie.Need-cast-t6
+cast-t6 c =
+    let start = c .before .before .before in
+    let limit = limits (start .args .s) (start .pre .0) in
     rw (c .place-number .ensures) (place-number-fits _ _ _ (omega arith) (omega arith))
 
 returns : tie.Need-returns
 returns c =
-    let a = c .before .args in
-    rw (c .place-number .ensures) (named-in-triangle (a .s) _ (a .r) (a .c) (omega arith))
+    let a = c .before .before .before .args in
+    rw (c .place-number .ensures) (named-by-row (a .s) _ (a .r) (a .c) (c .before .if1 .taken) (omega arith))
+
+diagonal-number-requires : tie.Need-diagonal-number-requires
+diagonal-number-requires c κs =
+    let limit = limits (c .before .before .args .s) (c .before .before .pre .0) in
+    omega (arith, limit .k-most)
+
+cast-t8 : tie.Need-cast-t8
+cast-t8 c =
+    let start = c .before .before .before in
+    let limit = limits (start .args .s) (start .pre .0) in
+    rw (c .diagonal-number .ensures) (diagonal-number-fits _ _ (omega (arith, limit .k-most)))
+
+returns-2 : tie.Need-returns-2
+returns-2 c =
+    let a = c .before .before .before .args in
+    rw (c .diagonal-number .ensures) (named-by-diagonal (a .s) (a .r) (a .c) (c .before .if1 .left))
 
 pub name-at-spec : {M : Type 1} → statement M
-name-at-spec = tie.close (tie.spec place-number-requires cast-t5 returns)
+name-at-spec = tie.close (tie.spec place-number-requires cast-t6 returns diagonal-number-requires cast-t8 returns-2)

@@ -6,4 +6,4 @@ use Rattle.places.proofs.permitted.Tie as tie
 pub permitted-spec : {M : Type 1} → statement M
 permitted-spec =
     tie.close (tie.spec (λ c. search tests) (λ c. search tests) (λ c. search tests) (λ c. search tests)
-    (λ c. search tests) (λ c. search tests) (λ c. search tests) (λ c. search tests))
+    (λ c. search tests) (λ c. search tests) (λ c. search tests) (λ c κs. search tests) (λ c. search tests))

@@ -4,7 +4,8 @@ use Rattle.schedule.proofs.settings.Statement.{statement}
 use Rattle.schedule.proofs.settings.Tie as tie
 
 returns : tie.Need-returns
-returns c = rw (c .before .word .ensures)
+returns c = rw (c .before .before .word .ensures, c .word2 .ensures)
 
 pub settings-spec : {M : Type 1} → statement M
-settings-spec = tie.close (tie.spec (λ c. search tests) (λ c κs. search tests) (λ c. search tests) returns)
+settings-spec =
+    tie.close (tie.spec (λ c. search tests) (λ c κs. search tests) (λ c. search tests) (λ c κs. search tests) returns)

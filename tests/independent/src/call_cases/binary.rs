@@ -6,10 +6,11 @@
 //! byte 1        mode
 //! bytes 2-3     N
 //! byte 4        k
-//! bytes 5-6     identifier, 0 for setup
-//! bytes 7-8     how many records are lent
-//! bytes 9-10    how many X numbers
-//! bytes 11-12   how many marks
+//! bytes 5-6     version
+//! bytes 7-8     identifier, 0 for setup
+//! bytes 9-10    how many records are lent
+//! bytes 11-12   how many X numbers
+//! bytes 13-14   how many marks
 //! then 6 bytes a record: state (0 idle, 1 seeking, 2 holding), r, c, point (0 write X, 1 scan,
 //!               2 write mark, 3 read X, 4 clear going right, 5 clear going down), the scan's place
 //!               in 2 bytes; what a record has not is 0
@@ -28,7 +29,7 @@ pub type Asked = (Settings, Memory, Call);
 
 /// The case as bytes; a row has fewer than 65,536 elements.
 pub fn pack(case: &CallCase) -> Vec<u8> {
-    let Settings { mode, n, k } = case.settings;
+    let Settings { mode, n, k, version } = case.settings;
     let Memory { records, registers: Registers { x, marks } } = &case.before;
     let (code, id) = match case.call {
         Call::Ask(id) => (0, id),
@@ -39,6 +40,7 @@ pub fn pack(case: &CallCase) -> Vec<u8> {
     let mut bytes = vec![code, mode];
     bytes.extend(n.to_le_bytes());
     bytes.push(k);
+    bytes.extend(version.to_le_bytes());
     bytes.extend(id.to_le_bytes());
     for length in [records.len(), x.len(), marks.len()] {
         bytes.extend((length as u16).to_le_bytes());
@@ -100,6 +102,7 @@ impl Bytes<'_> {
     fn asked(&mut self) -> Option<Asked> {
         let code = self.byte()?;
         let settings = Settings::new(self.byte()?, self.word()?, self.byte()?);
+        let settings = settings.of_version(self.word()?);
         let id = self.word()?;
         let call = match code {
             0 => Call::Ask(id),

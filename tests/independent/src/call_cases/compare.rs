@@ -6,7 +6,6 @@ use std::sync::Mutex;
 use super::binary::{pack, MOST_BYTES};
 use super::{cases, CallCase};
 use crate::comparison::{self, Counts, Input, Part};
-use crate::grid::Settings;
 use crate::program::Program;
 use crate::random::Random;
 
@@ -63,10 +62,9 @@ fn empty_input(seed: u64, index: usize) -> Input {
 }
 
 fn part_of(at: &str, case: &CallCase) -> Part {
-    let Settings { mode, n, k } = case.settings;
-    let (tries, call) = (case.tries, case.call_words());
+    let (tries, settings, call) = (case.tries, case.settings_words(), case.call_words());
     Part {
-        label: format!("{at}, {tries}, settings {mode} {n} {k}, call {call}"),
+        label: format!("{at}, {tries}, settings {settings}, call {call}"),
         family: tries.to_string(),
         due: case.outcome(),
         answers: Counts::from([(answer_word(case), 1)]),

@@ -35,13 +35,15 @@ impl Maker {
         self.cases.push(CallCase::new(&Grid, tries, settings, before.clone(), call));
     }
 
-    /// The families that settings in the limits have; some stand in `moments`, `surplus` and `faults`.
+    /// The families that settings in the limits have; some stand in `holders`, `moments`, `surplus` and
+    /// `faults`.
     pub fn every_family(&mut self, settings: Settings) {
         self.points(settings);
         self.own_x(settings);
         self.own_marks(settings);
         self.holders(settings);
         self.edge_holders(settings);
+        self.names(settings);
         self.moments(settings);
         self.asks(settings);
         self.many_out(settings);
@@ -166,39 +168,6 @@ impl Maker {
             memory.records[p] = Record::Holding(place);
             memory.registers.marks.fill(1);
             self.push("own mark", settings, &memory, Call::Release(task));
-        }
-    }
-
-    /// Holders at some places, alone and two at one place, with their marks 0 and 1.
-    pub fn holders(&mut self, settings: Settings) {
-        let mut places = places(settings.k() - 1);
-        self.random.shuffle(&mut places);
-        places.truncate(8);
-        for place in places {
-            let mut tasks: Vec<u16> = (0..settings.n).collect();
-            self.random.shuffle(&mut tasks);
-            for value in [0, 1] {
-                let mut memory = self.random.memory(settings);
-                for task in tasks.iter().take(2) {
-                    memory.records[usize::from(*task)] = Record::Holding(place);
-                }
-                memory.registers.marks.fill(value);
-                for call in calls_of(tasks[0]) {
-                    self.push("holder", settings, &memory, call);
-                }
-            }
-        }
-    }
-
-    /// A release at every place on the edge: it touches no register.
-    fn edge_holders(&mut self, settings: Settings) {
-        let edge = settings.k - 1;
-        for place in (0..=edge).map(|r| Place { r, c: edge - r }) {
-            let p = self.random.task(settings);
-            let mut memory = self.random.memory(settings);
-            memory.records[usize::from(p)] = Record::Holding(place);
-            memory.registers.marks.fill(1);
-            self.push("edge holder", settings, &memory, Call::Release(p));
         }
     }
 

@@ -169,6 +169,19 @@ impl Maker {
             }
         }
     }
+
+    /// Versions: 1 and 2, and others, some of which end in a byte of 1 or 2.
+    pub fn versions(&mut self) {
+        for version in [0, 1, 2, 3, 255, 256, 257, 258, 513, 65_535] {
+            for mode in [0, 1] {
+                let settings = Settings::new(mode, 3, 3).of_version(version);
+                let memory = self.random.memory(settings);
+                for call in all_calls(self.random.task(settings)) {
+                    self.push("version", settings, &memory, call);
+                }
+            }
+        }
+    }
 }
 
 /// Cuts a row down to a length.

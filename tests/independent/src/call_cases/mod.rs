@@ -3,7 +3,7 @@
 //!
 //! ```text
 //! case NUMBER WHAT IT TRIES
-//! settings MODE N K
+//! settings MODE N K VERSION
 //! records RECORD ...       the lent row before the call, one word a record, surplus included
 //! x NUMBER ...
 //! marks NUMBER ...
@@ -17,8 +17,8 @@
 //! A RECORD is `idle`, `hold/R/C` or `seek/R/C/POINT`; a POINT is `x` (write X), `scan/H`, `mark`
 //! (write mark), `read` (read X), `right` or `down` (clear, going there). ROW is `records`, `x` or
 //! `marks`. Words are parted by one space; an empty row is its first word alone. The last line is
-//! `end NUMBER`, the number of cases. MODE, K, R, C and marks are below 256; N, H and identifiers
-//! below 65,536; X below 4,294,967,296.
+//! `end NUMBER`, the number of cases. MODE, K, R, C and marks are below 256; N, VERSION, H and
+//! identifiers below 65,536; X below 4,294,967,296.
 //!
 //! `calls PROGRAM` hands the cases over in the form of `binary`, and the program prints each case's
 //! last four lines, those of its outcome.
@@ -27,6 +27,7 @@ mod binary;
 mod compare;
 mod families;
 mod faults;
+mod holders;
 mod memories;
 mod moments;
 pub mod store;
@@ -85,6 +86,12 @@ impl CallCase {
         CallCase { tries, settings, before, call, answer, after }
     }
 
+    /// MODE N K VERSION.
+    pub fn settings_words(&self) -> String {
+        let Settings { mode, n, k, version } = self.settings;
+        format!("{mode} {n} {k} {version}")
+    }
+
     /// What is called: `setup`, `ask ID`, `turn ID` or `release ID`.
     pub fn call_words(&self) -> String {
         match self.call {
@@ -114,9 +121,13 @@ pub fn cases(seed: u64) -> Vec<CallCase> {
     maker.greatest_rows();
     let sizes = [(1, 1), (3, 1), (2, 2), (3, 2), (3, 3), (4, 3), (5, 4), (16, 16), (256, 2)];
     for mode in [0, 1] {
-        for (n, k) in sizes {
-            maker.every_family(Settings::new(mode, n, k));
-            maker.anything(Settings::new(mode, n, k), 12);
+        for (index, (n, k)) in sizes.into_iter().enumerate() {
+            // A size that has version 1 in one mode has version 2 in the other.
+            let version = if index % 2 == usize::from(mode) { 1 } else { 2 };
+            let settings = Settings::new(mode, n, k).of_version(version);
+            maker.every_family(settings);
+            maker.names(settings.of_version(3 - version));
+            maker.anything(settings, 12);
         }
         for (n, k) in [(5, 2), (6, 3), (8, 4)] {
             maker.asks(Settings::new(mode, n, k));
@@ -129,6 +140,7 @@ pub fn cases(seed: u64) -> Vec<CallCase> {
         }
     }
     maker.bad_settings();
+    maker.versions();
     maker.cases
 }
 
@@ -145,9 +157,8 @@ pub fn text(cases: &[CallCase]) -> String {
     let mut text = String::new();
     // Writing to a string does not fail.
     for (number, case) in cases.iter().enumerate() {
-        let Settings { mode, n, k } = case.settings;
         let _ = writeln!(text, "case {number} {}", case.tries);
-        let _ = writeln!(text, "settings {mode} {n} {k}");
+        let _ = writeln!(text, "settings {}", case.settings_words());
         write_memory(&mut text, &case.before);
         let _ = writeln!(text, "call {}", case.call_words());
         text.push_str(&case.outcome());

@@ -17,13 +17,16 @@ const SEED: u64 = 1;
 pub fn cases() -> Vec<CallCase> {
     let mut maker = Maker::new(SEED);
     for mode in [0, 1] {
-        maker.every_family(Settings::new(mode, 4, 3));
+        let version = 1 + u16::from(mode);
+        maker.every_family(Settings::new(mode, 4, 3).of_version(version));
+        maker.names(Settings::new(mode, 3, 3).of_version(3 - version));
         maker.asks(Settings::new(mode, 1, 1));
         maker.asks(Settings::new(mode, 5, 2));
         maker.holders(Settings::new(mode, 2, 1));
         maker.row_lengths(Settings::new(mode, 2, 2), 0..=3);
     }
     maker.bad_settings();
+    maker.versions();
     let mut out_of_range = 0;
     maker.cases.retain(|case| {
         if !matches!(case.answer, Err(Refusal::OutOfRange { .. })) {

@@ -75,7 +75,7 @@ impl Maker {
         for call in [Call::Turn(255), Call::Setup] {
             let mut memory = self.random.memory(settings);
             memory.records[255] = Record::Seeking(Place { r: 14, c: 0 }, Point::Scan(255));
-            for _ in 0..19 {
+            for _ in 0..17 {
                 self.lengthen(settings, &mut memory, Row::Marks);
             }
             self.push("greatest rows", settings, &memory, call);

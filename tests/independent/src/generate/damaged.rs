@@ -8,11 +8,11 @@ use crate::random::Random;
 use crate::schedule::{file_bytes, Event, Kind, LARGEST_FILE, MOST_EVENTS};
 use crate::Settings;
 
-const GOOD: Settings = Settings { mode: 1, n: 2, k: 2 };
+const GOOD: Settings = Settings::new(1, 2, 2);
 
 /// A header with these fields, good or bad.
-pub fn header(version: u16, settings: Settings, count: u16) -> Vec<u8> {
-    file_bytes(version, settings, count, &[])
+pub fn header(settings: Settings, count: u16) -> Vec<u8> {
+    file_bytes(settings, count, &[])
 }
 
 /// A file of so many events: asks, turns and releases of two tasks in turn.
@@ -25,14 +25,14 @@ pub fn full_file(count: usize) -> Vec<u8> {
             Event::new(kind, id).number()
         })
         .collect();
-    file_bytes(1, GOOD, count as u16, &numbers)
+    file_bytes(GOOD, count as u16, &numbers)
 }
 
 /// A file of two events, small enough to change each byte into each other.
 fn small_file() -> Vec<u8> {
     let events = [Event::new(Kind::Ask, 1), Event::new(Kind::Turn, 1)];
     let numbers: Vec<u32> = events.iter().map(|event| event.number()).collect();
-    file_bytes(1, GOOD, 2, &numbers)
+    file_bytes(GOOD, 2, &numbers)
 }
 
 fn truncations(name: &str, file: &[u8]) -> Vec<Case> {
@@ -109,7 +109,7 @@ fn faults() -> Vec<Case> {
 fn counts() -> Vec<Case> {
     let mut cases = Vec::new();
     for count in [0, 1, 255, 256, 16_383, 16_384, 16_385, 32_768, 65_535] {
-        let bare = header(1, GOOD, count);
+        let bare = header(GOOD, count);
         cases.push(Case::new(format!("count {count}, bare header"), bare));
         let file = full_file(usize::from(count));
         for change in [-3i64, -2, -1, 1, 2, 3, 11] {
@@ -152,7 +152,7 @@ pub fn cases() -> Vec<Case> {
     let mut cases = truncations("small file", &small_file());
     cases.extend(truncations("listing of 01", &listing));
     cases.extend(changes("small file", &small_file()));
-    cases.extend(changes("bare header", &header(1, Settings::new(0, 3, 3), 0)));
+    cases.extend(changes("bare header", &header(Settings::new(0, 3, 3).of_version(2), 0)));
     cases.extend(faults());
     cases.extend(counts());
     cases.extend(no_files());

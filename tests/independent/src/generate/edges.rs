@@ -42,8 +42,7 @@ fn one_behind_another(settings: Settings, first: u16, second: u16) -> Case {
     events.push(ask(second));
     events.extend(turns(second, enough));
     events.extend([free(first), free(second), ask(first)]);
-    let Settings { mode, n, k } = settings;
-    let label = format!("edge task {second} behind {first}, mode {mode} N {n} k {k}");
+    let label = format!("edge task {second} behind {first}, {settings}");
     Case::of_schedule(label, settings, &events)
 }
 
@@ -58,15 +57,13 @@ fn asks_beyond_k(settings: Settings) -> Case {
         events.extend(turns(id, settings.bound()));
         events.extend([free(id), ask(id), free(id)]);
     }
-    let Settings { mode, n, k } = settings;
-    Case::of_schedule(format!("edge asks beyond k, mode {mode} N {n} k {k}"), settings, &events)
+    Case::of_schedule(format!("edge asks beyond k, {settings}"), settings, &events)
 }
 
 /// So many asks and nothing more: PEAK is reached by the last event, or before a refused one.
 fn only_asks(settings: Settings, count: u16) -> Case {
     let events: Vec<Event> = (0..count).map(ask).collect();
-    let Settings { mode, n, k } = settings;
-    let label = format!("edge only {count} asks, mode {mode} N {n} k {k}");
+    let label = format!("edge only {count} asks, {settings}");
     Case::of_schedule(label, settings, &events)
 }
 
@@ -88,8 +85,7 @@ fn moments(settings: Settings) -> Case {
     for id in tasks {
         events.extend([free(id), free(id), turn(id)]);
     }
-    let Settings { mode, n, k } = settings;
-    Case::of_schedule(format!("edge moments, mode {mode} N {n} k {k}"), settings, &events)
+    Case::of_schedule(format!("edge moments, {settings}"), settings, &events)
 }
 
 /// Identifiers on both sides of N, in every call, before and after a task is out.
@@ -101,20 +97,26 @@ fn identifiers(settings: Settings) -> Case {
     let again = events.clone();
     events.push(ask(0));
     events.extend(again);
-    let Settings { mode, n, k } = settings;
-    Case::of_schedule(format!("edge identifiers, mode {mode} N {n} k {k}"), settings, &events)
+    Case::of_schedule(format!("edge identifiers, {settings}"), settings, &events)
 }
 
-/// A bare header with settings on both sides of each limit.
+/// A bare header with settings on both sides of each limit, and with versions.
 fn settings_edges() -> Vec<Case> {
     let mut cases = Vec::new();
     for mode in [0, 1, 2, 3, 128, 255] {
         for n in [0, 1, 2, 3, 15, 16, 17, 255, 256, 257, 258, 512, 32_768, 65_535] {
             for k in [0, 1, 2, 3, 15, 16, 17, 18, 255] {
                 let settings = Settings::new(mode, n, k);
-                let label = format!("edge settings {mode} {n} {k}");
-                cases.push(Case::new(label, header(1, settings, 0)));
+                cases.push(Case::new(format!("edge settings {settings}"), header(settings, 0)));
             }
+        }
+    }
+    // An unknown version comes before other settings outside the limits.
+    for version in [0, 1, 2, 3, 255, 256, 257, 258, 513, 32_769, 65_535] {
+        for settings in [Settings::new(1, 3, 3), Settings::new(2, 3, 3), Settings::new(1, 257, 17)]
+        {
+            let settings = settings.of_version(version);
+            cases.push(Case::new(format!("edge settings {settings}"), header(settings, 0)));
         }
     }
     cases
@@ -123,9 +125,9 @@ fn settings_edges() -> Vec<Case> {
 pub fn cases() -> Vec<Case> {
     let mut cases = vec![listing_of_01()];
     let sizes = [(1, 1), (2, 1), (2, 2), (3, 2), (3, 3), (5, 5), (16, 16), (256, 1), (256, 2)];
-    for mode in [0, 1] {
+    for (mode, version) in [(0, 1), (0, 2), (1, 1), (1, 2)] {
         for (n, k) in sizes.into_iter().chain([(256, 16)]) {
-            let settings = Settings::new(mode, n, k);
+            let settings = Settings::new(mode, n, k).of_version(version);
             let k = u16::from(k);
             cases.extend([k - 1, k, k + 1].map(|count| only_asks(settings, count)));
             cases.push(asks_beyond_k(settings));

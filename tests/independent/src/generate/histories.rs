@@ -23,9 +23,7 @@ pub fn random_schedule(random: &mut Random) -> Schedule {
     let interleaving = random.pick(&Interleaving::WHOLE);
     let players = players(random, settings);
     let events = Maker::new(random, settings, length, players).play_whole(interleaving);
-    let Settings { mode, n, k } = settings;
-    let count = events.len();
-    let label = format!("random {interleaving:?} mode {mode} N {n} k {k}, {count} events");
+    let label = format!("random {interleaving:?} {settings}, {} events", events.len());
     Schedule { label, settings, events }
 }
 
@@ -52,7 +50,7 @@ fn random_settings(random: &mut Random) -> Settings {
         98 => (256, random.between(7, 15)),
         _ => (256, 16),
     };
-    Settings::new(mode, n as u16, k as u8)
+    Settings::new(mode, n as u16, k as u8).of_version(random.pick(&[1, 2]))
 }
 
 /// A length from 0 to 16,384 that suits the settings: most are some acquisitions long.

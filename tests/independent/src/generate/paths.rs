@@ -108,7 +108,6 @@ fn case(random: &mut Random, settings: Settings, path: &[Direction]) -> Option<C
     let mut order: Vec<u16> = (0..settings.n).collect();
     random.shuffle(&mut order);
     let events = path_schedule(settings, &order, path);
-    let Settings { mode, n, k } = settings;
     let letter = |direction: &Direction| {
         if *direction == Direction::Down {
             'D'
@@ -117,16 +116,16 @@ fn case(random: &mut Random, settings: Settings, path: &[Direction]) -> Option<C
         }
     };
     let letters: String = path.iter().map(letter).collect();
-    let label = format!("path mode {mode} N {n} k {k} {letters}");
+    let label = format!("path {settings} {letters}");
     (events.len() <= MOST_EVENTS).then(|| Case::of_schedule(label, settings, &events))
 }
 
-/// For each k and each place on the edge: first down and then right, first right and then down,
+/// For each version, k and place on the edge: first down and then right, first right and then down,
 /// and in a random order.
 pub fn cases() -> Vec<Case> {
     let mut random = Random::new(3);
     let mut cases = Vec::new();
-    for mode in [0, 1] {
+    for (mode, version) in [(0, 1), (0, 2), (1, 1), (1, 2)] {
         for k in 1..=16u8 {
             for r in 0..usize::from(k) {
                 let mut down_first = vec![Direction::Right; usize::from(k) - 1];
@@ -135,7 +134,8 @@ pub fn cases() -> Vec<Case> {
                 let any = random_path(&mut random, usize::from(k), r);
                 for path in [down_first, right_first, any] {
                     let n = u16::from(k) + random.below(4) as u16;
-                    cases.extend(case(&mut random, Settings::new(mode, n, k), &path));
+                    let settings = Settings::new(mode, n, k).of_version(version);
+                    cases.extend(case(&mut random, settings, &path));
                 }
             }
         }
@@ -146,12 +146,15 @@ pub fn cases() -> Vec<Case> {
 /// A random path in a grid whose schedule fits a file.
 pub fn random_case(random: &mut Random) -> Case {
     let mode = random.below(2) as u8;
+    let version = random.pick(&[1, 2]);
     let k = random.between(1, 16);
     let r = random.below(k);
     let path = random_path(random, k, r);
     let widest = random.pick(&[k, k + 1, 40, 100, 256]).max(k);
     let n = random.between(k, widest) as u16;
-    let wide = case(random, Settings::new(mode, n, k as u8), &path);
-    let narrow = Settings::new(mode, k as u16, k as u8);
-    wide.or_else(|| case(random, narrow, &path)).expect("with N = k every path fits a file")
+    let wide = Settings::new(mode, n, k as u8).of_version(version);
+    let narrow = Settings { n: k as u16, ..wide };
+    case(random, wide, &path)
+        .or_else(|| case(random, narrow, &path))
+        .expect("with N = k every path fits a file")
 }

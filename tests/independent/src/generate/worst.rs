@@ -67,22 +67,21 @@ pub fn settings() -> Vec<Settings> {
     all
 }
 
-/// The worst schedules that fit a file: for task 0, and for the last task with the others in a
-/// random order.
+/// The worst schedules that fit a file: for task 0, and in version 2 for the last task with the
+/// others in a random order.
 pub fn cases() -> Vec<Case> {
     let mut random = Random::new(1);
     let mut cases = Vec::new();
     for settings in settings() {
         let mut last_first: Vec<u16> = (0..settings.n).rev().collect();
         random.shuffle(&mut last_first[1..]);
-        for (order, last) in
-            [(in_order(settings.k), LastWriter::Stops), (last_first, LastWriter::Holds)]
+        for (version, order, last) in
+            [(1, in_order(settings.k), LastWriter::Stops), (2, last_first, LastWriter::Holds)]
         {
+            let settings = settings.of_version(version);
             let events = worst_schedule(settings, &order, last);
             if events.len() <= MOST_EVENTS {
-                let Settings { mode, n, k } = settings;
-                let label = format!("worst mode {mode} N {n} k {k}");
-                cases.push(Case::of_schedule(label, settings, &events));
+                cases.push(Case::of_schedule(format!("worst {settings}"), settings, &events));
             }
         }
     }

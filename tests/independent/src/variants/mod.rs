@@ -2,6 +2,7 @@
 //! it in one rule, and the generated cases must tell it from the grid.
 
 pub mod moment;
+pub mod names;
 pub mod peak;
 pub mod shortcuts;
 
@@ -11,6 +12,7 @@ use crate::rules::{Grid, Rules};
 #[derive(Clone, Copy, PartialEq, Eq)]
 enum ToldBy {
     Schedules,
+    Calls,
     Both,
 }
 
@@ -28,6 +30,11 @@ impl Variant {
         Variant { name, rules, told_by: ToldBy::Schedules }
     }
 
+    /// A variant that differs from the grid in calls only.
+    const fn by_calls(name: &'static str, rules: &'static dyn Rules) -> Variant {
+        Variant { name, rules, told_by: ToldBy::Calls }
+    }
+
     /// A variant that differs from the grid in listings and in calls.
     const fn both(name: &'static str, rules: &'static dyn Rules) -> Variant {
         Variant { name, rules, told_by: ToldBy::Both }
@@ -35,17 +42,17 @@ impl Variant {
 }
 
 fn all() -> impl Iterator<Item = Variant> {
-    shortcuts::ALL.into_iter().chain(moment::ALL).chain(peak::ALL)
+    shortcuts::ALL.into_iter().chain(moment::ALL).chain(peak::ALL).chain(names::ALL)
 }
 
 /// The variants that schedules must tell from the grid.
 pub fn told_by_schedules() -> Vec<Variant> {
-    all().collect()
+    all().filter(|variant| variant.told_by != ToldBy::Calls).collect()
 }
 
 /// The variants that calls on arbitrary memories must tell from the grid.
 pub fn told_by_calls() -> Vec<Variant> {
-    all().filter(|variant| variant.told_by == ToldBy::Both).collect()
+    all().filter(|variant| variant.told_by != ToldBy::Schedules).collect()
 }
 
 /// The rules of that name: `grid`, or one of the variants.
