@@ -1,19 +1,16 @@
 -- A call is what its decision says: the record decided is put back in its place, and the registers are those decided.
--- Likewise setup, whose records are filled as far as was decided.
-use mathlib.Core.{Path.{_≡_, refl, sym, ap}, List.{List, [], _∷_}}
-use Prim.Native.Nat.{ℕ, zero, suc, _≤_}
-use native.Mathlib.Omega.{arith}
-use lib.{ListN.{length, getD, set}, Seq.set-getD}
-use Rattle.machine.specs.{Records.{idle, recordInRange}, Memory.{Memory, viewOf, fill}, Turn.{access, value, store}}
+-- Likewise setup, whose records stay.
+use mathlib.Core.{Path.{_≡_, refl, sym, ap}, List.List}
+use Prim.Native.Nat.{ℕ}
+use lib.{ListN.{getD, set}, Seq.set-getD}
+use Rattle.machine.specs.{Records.{idle, recordInRange}, Memory.{Memory, viewOf}, Turn.{access, value, store}}
 use Rattle.machine.specs.{Calls.{Outcome, refuseOr, accept, call, cleared, setup, eventOf}, Lent.{lent, leaves}}
 use Rattle.machine.specs.declared.{Settings.Settings, Record.Record}
 use Rattle.machine.specs.declared.Access.{Access, the-variants.{NoAccess, XRead, XWritten, MarkRead, MarkWritten}}
 use Rattle.machine.specs.declared.{Kind.Kind, Verdict.Verdict, Answer.Answer}
 use Rattle.machine.specs.Refusals.{verdict, setupVerdict}
 use Rattle.counting.proofs.Searching.{none-bad-all}
-use Rattle.rules.specs.Decision.{Sees, Decision, decisionBy, decision, Preparation, preparationBy, preparation}
-use Rattle.rules.proofs.Rows.{lent-passes}
-use Rattle.rows.specs.Rows as rows
+use Rattle.rules.specs.Decision.{Sees, Decision, decisionBy, decision, preparation}
 
 -- the view of a row says of its task's own record that it is in range where nothing is bad
 pub view-sees : (s : Settings) (records : List Record) (p : ℕ) → Sees s p (viewOf s records p)
@@ -64,22 +61,15 @@ module _ (s : Settings) (kind : Kind) (p : ℕ) (records : List Record) (m : Mem
 
 -- ---- setup
 
-cleared-fill : (n : ℕ) (records : List Record) → n ≤ length records → rows.cleared n records ≡ fill n idle records
-cleared-fill zero records l = refl
-cleared-fill (suc n) [] l = absurd (let z : ⊥ = omega arith in z)
-cleared-fill (suc n) (first ∷ records) l =
-    ap (λ (rest : List Record). idle ∷ rest) (cleared-fill n records (omega arith))
-
-abbrev pub preparedOutcome : List Record → Preparation → Outcome
-preparedOutcome records d = leaves (d .answer) (beside (rows.cleared (d .fresh) records) (d .memory))
+-- what setup leaves of the registers, beside the records, which it does not write
+abbrev pub preparedOutcome : List Record → Outcome → Outcome
+preparedOutcome records o = leaves (o .answer) (beside records (o .memory))
 
 pub by-preparation : (s : Settings) (records : List Record) (m : Memory)
     → preparedOutcome records (preparation s (viewOf s records 0) m) ≡ setup s (beside records m)
-by-preparation s records m = go (setupVerdict s (viewOf s records 0) m) refl
+by-preparation s records m = go (setupVerdict s (viewOf s records 0) m)
   where
-    go : (v : Verdict) → setupVerdict s (viewOf s records 0) m ≡ v
-        → preparedOutcome records (preparationBy v s m)
+    go : (v : Verdict) → preparedOutcome records (refuseOr v m (leaves Answer.Done (cleared s m)))
         ≡ refuseOr v (beside records m) (leaves Answer.Done (cleared s (beside records m)))
-    go (Verdict.Refused why) e = refl
-    go Verdict.Accepted e = rw (cleared-fill (s .n) records
-        (lent-passes s (viewOf s records 0) m e .long .records))
+    go (Verdict.Refused why) = refl
+    go Verdict.Accepted = refl

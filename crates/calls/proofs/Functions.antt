@@ -10,8 +10,6 @@ use Rattle.machine.proofs.Event as E
 use Rattle.machine.proofs.Event.Laws as E′
 use Rattle.rules.proofs.Decided as D
 use Rattle.rules.proofs.Decided.Laws as D′
-use Rattle.rules.proofs.Prepared as P
-use Rattle.rules.proofs.Prepared.Laws as P′
 use Rattle.rules.proofs.decide as decide
 use Rattle.rules.proofs.setup as decide-setup
 use Rattle.calls.proofs.step as step
@@ -36,9 +34,6 @@ event-data = struct E.the-type E′.the-laws E′.the-plain E′.the-copy
 abbrev pub decided-data : Data D.the-row
 decided-data = struct D.the-type D′.the-laws D′.the-plain D′.the-copy
 
-abbrev pub prepared-data : Data P.the-row
-prepared-data = struct P.the-type P′.the-laws P′.the-plain P′.the-copy
-
 -- what a call decides
 
 abbrev pub decide-fn : Function decide.ended
@@ -57,7 +52,7 @@ decide-fn = record {
 abbrev pub decide-setup-fn : Function decide-setup.ended
 decide-setup-fn = record {
   params = (value settings-data yes, (value view-data yes, (changed u32 0 tt, (changed u8 1 tt, tt))));
-  result = λ _. prepared-data;
+  result = λ _. answer-data;
   clauses = decide-setup.clauses;
 }
 

@@ -25,14 +25,12 @@ pub struct Made {
     pub answer: Answer,
 }
 
-// Setup makes the N records idle, all X 0 and all marks 0.
+// Setup makes all X 0 and all marks 0, where the N records are idle; it declines over a busy row.
 pub fn setup(s: Settings, records: &mut [Record], xs: &mut [u32], marks: &mut [u8]) -> Answer
     ensures { λ answer. ⌜ leaves answer (lent (now (records .exit)) (now (xs .exit)) (now (marks .exit))) ≡ setup s (lent (now (records .entry)) (now (xs .entry)) (now (marks .entry))) ⌝ }
 {
     let seen = rows::look(s, records, TaskId(0));
-    let prepared = rules::setup(s, seen, xs, marks);
-    rows::fill(records, prepared.fresh);
-    prepared.answer
+    rules::setup(s, seen, xs, marks)
 }
 
 // A call of one task, by its event: ask, turn or release.

@@ -1,10 +1,11 @@
 -- Whether some number below n passes a test, found by looking from 0 on.
 use mathlib.Core.{Path.{_≡_, refl, sym, _∙_, ap}, Bool.{Bool, true, false, _||_}, Logic.{_⊎_, inl, inr, ⊎-elim}}
 use Prim.Native.Nat.{ℕ, zero, suc, _+_, _<_}
+use lib.Dec.{T, ltb, ltb→lt, lt→ltb}
 use native.Mathlib.{Nat.{eq-or-lt-of-le, le-of-suc-le-suc, not-suc-le-zero}, Numerals.add-one, Decide.ℕ-discrete}
 use native.Mathlib.Omega.{arith}
-use Rattle.counting.specs.Counting.{anyBelow}
-use Rattle.counting.proofs.Tested.{Tested, either, meaning, never}
+use Rattle.counting.specs.Counting.{tick, count, anyBelow}
+use Rattle.counting.proofs.{Tested.{Tested, either, meaning, never}, Counting.count-one}
 
 or-true : (a b : Bool) → b ≡ true → a || b ≡ true
 or-true true b e = refl
@@ -54,3 +55,22 @@ some-below {Holds = Holds} test each (suc n) = meaning (either (some-below test 
         go : Dec (i ≡ n) → ((i : ℕ) × (i < n) × Holds i) ⊎ Holds n
         go (yes e) = inr (rw e at here)
         go (no other) = inl (i, omega arith, here)
+
+-- where some are counted, one of them is there
+count-found : (test : ℕ → Bool) (n : ℕ) → 0 < count test n → (i : ℕ) × (i < n) × T (test i)
+unfolding count
+count-found test zero some = absurd (not-suc-le-zero some)
+count-found test (suc n) some = go (λ before. count-found test n before) (test n) refl some
+  where
+    go : (0 < count test n → (i : ℕ) × (i < n) × T (test i)) → (b : Bool) → test n ≡ b → 0 < tick b (count test n)
+        → (i : ℕ) × (i < suc n) × T (test i)
+    go before true e some = (n, omega arith, rw e tt)
+    go before false e some = let (i, l, here) = before some in (i, omega arith, here)
+
+-- more than none are counted
+pub some-counted : {Holds : ℕ → Type 0} (test : ℕ → Bool) → ((i : ℕ) → Tested (test i) (Holds i)) → (n : ℕ)
+    → Tested (ltb 0 (count test n)) ((i : ℕ) × (i < n) × Holds i)
+some-counted test each n = record {
+  says = λ t. let (i, l, here) = count-found test n (ltb→lt 0 (count test n) t) in (i, l, each i .says here);
+  shows = λ (i, l, here). lt→ltb 0 (count test n) (count-one test n i l (each i .shows here));
+}

@@ -9,3 +9,4 @@ pub mod Laps
 pub mod WorstRun
 pub mod Exact
 pub mod Demand3
+pub mod Setups

@@ -1,6 +1,6 @@
 -- 01, "Rules of the grid": setup, ask, turn and release, from the memory before to the answer and the memory after.
 use Prim.Native.Nat.{ℕ}
-use Rattle.machine.specs.{Places.{blocks, nameNumber}, Records.idle}
+use Rattle.machine.specs.Places.{blocks, nameNumber}
 use Rattle.machine.specs.Memory.{Memory, marksNeeded, stateOf, viewOf, withRecord, fill}
 use Rattle.machine.specs.{Turn.{access, value, store, next}, Refusals.{setupVerdict, verdict}}
 use Rattle.machine.specs.declared.{Settings.Settings, Name.Name}
@@ -72,10 +72,10 @@ abbrev pub call : Settings → Event → Memory → Outcome
 call s event m =
     refuseOr (verdictOf s event m) m (accept s (event .kind) (event .task .0) (stateOf m (event .task .0)) m)
 
--- setup makes the N records idle, all X 0 and all marks 0
+-- setup makes all X 0 and all marks 0; the N records, all idle where it is accepted, stay as they are
 abbrev pub cleared : Settings → Memory → Memory
 cleared s m = record {
-  records = fill (s .n) idle (m .records);
+  records = m .records;
   xs = fill (blocks s) 0 (m .xs);
   marks = fill (marksNeeded s) 0 (m .marks);
 }

@@ -7,7 +7,7 @@ use Rattle.machine.specs.Memory.{Memory, marksNeeded, badX, badMark}
 use Rattle.machine.specs.declared.{Settings.Settings, State.{State, the-variants.{Idle, Seeking, Holding}}, Kind.{Kind, the-variants.{Ask, Turn, Release}}}
 use Rattle.machine.specs.declared.Row.the-variants.{Records, Xs, Marks}
 use Rattle.machine.specs.declared.Refusal.{Refusal}
-use Rattle.machine.specs.declared.Refusal.the-variants.{Limits, ShortRow, OutOfRange, NoSuchTask, OneTime}
+use Rattle.machine.specs.declared.Refusal.the-variants.{Limits, ShortRow, BusyRow, OutOfRange, NoSuchTask, OneTime}
 use Rattle.machine.specs.declared.Refusal.the-variants.{TaskIdle, TaskSeeks, TaskHolds, TooManyOut}
 use Rattle.machine.specs.declared.{View.View, Verdict.{Verdict, the-variants.{Accepted, Refused}}}
 
@@ -85,9 +85,13 @@ taskCases s kind p seen =
     ∷ when (tooManyOut s kind (seen .out)) TooManyOut
     ∷ []
 
--- setup tests 1, 2
+-- 18: a record of the N is other than idle
+abbrev pub rowBusy : View → Bool
+rowBusy seen = ltb 0 (seen .out)
+
+-- setup tests 1, 2, 18
 abbrev pub setupVerdict : Settings → View → Memory → Verdict
-setupVerdict s seen m = first (lentCases s seen m [])
+setupVerdict s seen m = first (lentCases s seen m (when (rowBusy seen) BusyRow ∷ []))
 
 -- the other calls all of them
 abbrev pub verdict : Settings → Kind → ℕ → View → Memory → Verdict

@@ -8,3 +8,4 @@ pub mod OneAccess
 pub mod Surplus
 pub mod Telling
 pub mod Demands
+pub mod Setups

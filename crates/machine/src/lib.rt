@@ -93,11 +93,13 @@ pub enum Row {
     Marks,
 }
 
-// Why a call is refused, in the order of the tests. Their numbers are 1 to 17 without 6, which is
-// retired: 15 to 17 stand at its place, and tell what the task was at when the moment was wrong.
+// Why a call is refused, in the order of the tests. Their numbers are 1 to 18 without 6, which is
+// retired: 15 to 17 stand at its place, and tell what the task was at when the moment was wrong. 18
+// is setup's alone, after 2.
 pub enum Refusal {
     Limits,
     ShortRow,
+    BusyRow,
     OutOfRange { row: Row, index: usize },
     NoSuchTask,
     OneTime,
@@ -164,6 +166,7 @@ impl Refusal {
         match self {
             Refusal::Limits => 1,
             Refusal::ShortRow => 2,
+            Refusal::BusyRow => 18,
             Refusal::OutOfRange { row: _, index: _ } => 3,
             Refusal::NoSuchTask => 4,
             Refusal::OneTime => 5,

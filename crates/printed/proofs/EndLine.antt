@@ -8,16 +8,16 @@ use native.Mathlib.{Nat.{le-refl, max-zero}, Omega.arith}
 use lib.{Dec.{T, eqb, ltb, eqb→eq}, ListN.{length, getD, set, replicate, length-set, length-replicate, getD-replicate}}
 use lib.Seq.{getD-set-same, getD-set-other}
 use borrow.Author.Tests.{eqb-true, eqb-false, lt-ltb, le-ltb}
-use Rattle.machine.specs.{Records.{idle, isHolding, isOut}, Memory.{Memory, stateOf, outOf, viewOf, fill, largest}}
-use Rattle.machine.specs.{Answers.isAccepted, Refusals.setupVerdict}
-use Rattle.machine.specs.{Calls.{Outcome, nameAt, answerOf, refuseOr, call, setup}, History.{Answered, counted, turnsOf}}
+use Rattle.machine.specs.{Records.{idle, isHolding, isOut}, Memory.{Memory, stateOf, outOf, largest}}
+use Rattle.machine.specs.Answers.{isAccepted}
+use Rattle.machine.specs.{Calls.{Outcome, nameAt, answerOf, call, setup}, History.{Answered, counted, turnsOf}}
 use Rattle.machine.specs.promises.Refusing.{tasksOut}
 use Rattle.machine.specs.promises.{Demands.{memoryAfter, historyOf, used, HoldsSome, bound}, OneAccess.AcceptedIn}
 use Rattle.machine.specs.declared.{Settings.Settings, Name.Name, State.{State, the-variants.{Idle, Seeking, Holding}}}
 use Rattle.machine.specs.declared.{Kind.{Kind, the-variants.{Ask, Turn, Release}}, Event.Event, Answer.Answer}
-use Rattle.machine.specs.declared.{Record.Record, Verdict.Verdict, Opening.Opening}
-use Rattle.machine.proofs.refusals.{Lines.tasks-out, Refusing.started, Passing.{passed, by-the-rules}}
-use Rattle.machine.proofs.calls.{Fresh.fill-at, Effects.only-the-register-written-changes}
+use Rattle.machine.specs.declared.{Record.Record, Opening.Opening}
+use Rattle.machine.proofs.refusals.{Lines.tasks-out, Passing.{passed, by-the-rules}}
+use Rattle.machine.proofs.calls.{SettingUp.setup-clears, Effects.only-the-register-written-changes}
 use Rattle.machine.proofs.bridge.Histories.{run-keeps, run-append, history-append, call-few}
 use Rattle.machine.proofs.histories.{Served.turns-append, Demand3.{served-within, setup-takes}}
 use Rattle.counting.{specs.Counting.{tick, count, anyBelow}, proofs.{Lists.one-value, Searching.{count-same, count-none}}}
@@ -181,15 +181,11 @@ module _ (s : Settings) (file : List ℕ) where
   peak-kept zero = none-yet (λ i. Unit {0}) (λ i. outAt s file (suc i))
   peak-kept (suc n) = rw (peak-more n) (one-counted (λ i. Unit {0}) (λ i. outAt s file (suc i)) tt (peak-kept n))
 
-  -- setup leaves nobody out, whether it is accepted or not
+  -- setup writes no record, accepted or not, so nobody is out
   none-at-first : outOf s (setup s largest .memory .records) ≡ 0
-  none-at-first = go (setupVerdict s (viewOf s (largest .records) 0) largest)
-    where
-      go : (verdict : Verdict) → outOf s (refuseOr verdict largest (started s largest) .memory .records) ≡ 0
-      go Verdict.Accepted = count-none (λ p. isOut (getD (fill (s .n) idle (largest .records)) p idle .state)) (s .n)
-          (λ p l. rw (fill-at (s .n) p idle idle (largest .records) l))
-      go (Verdict.Refused why) = count-none (λ p. isOut (getD (replicate 256 idle) p idle .state)) (s .n)
-          (λ p l. ap (λ (r : Record). isOut (r .state)) (one-value 256 p idle))
+  none-at-first = rw (setup-clears s largest .writes-no-record)
+      (count-none (λ p. isOut (getD (replicate 256 idle) p idle .state)) (s .n)
+      (λ p l. ap (λ (r : Record). isOut (r .state)) (one-value 256 p idle)))
 
   few-out : (n : ℕ) → outAt s file n ≤ s .k
   few-out n = rw (sym (tasks-out s (memoryAt s file n)))

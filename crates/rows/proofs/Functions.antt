@@ -20,7 +20,6 @@ use Rattle.rows.proofs.start as start
 use Rattle.rows.proofs.step as step
 use Rattle.rows.proofs.pass as pass
 use Rattle.rows.proofs.look as look
-use Rattle.rows.proofs.fill as fill
 
 abbrev pub R : RattleType
 R = T.the-row
@@ -83,6 +82,3 @@ look-fn = record {
   result = λ _. view-data;
   clauses = look.clauses;
 }
-
-abbrev pub fill-fn : Function fill.ended
-fill-fn = record { params = (changed R 0 tt, (value (number w64) yes, tt)); result = λ _. unit; clauses = fill.clauses }

@@ -1,6 +1,6 @@
--- What a pass over the records has seen, index by index, and a row whose first records are made idle.
-use mathlib.Core.List.{List, [], _∷_}
-use Prim.Native.Nat.{ℕ, zero, suc}
+-- What a pass over the records has seen, index by index.
+use mathlib.Core.List.{List}
+use Prim.Native.Nat.{ℕ}
 use lib.ListN.{getD}
 use Rattle.machine.specs.{Records.{idle, isOut, recordInRange}, declared.{Settings.Settings, Record.Record}}
 use Rattle.counting.specs.Counting.{firstBad, count}
@@ -12,9 +12,3 @@ seenTo s row i = record {
   bad = firstBad (λ p. recordInRange s (getD row p idle)) i;
   out = count (λ p. isOut (getD row p idle .state)) i;
 }
-
--- the first n records idle, as far as there are any, and the others as they are
-abbrev pub cleared : ℕ → List Record → List Record
-cleared zero row = row
-cleared (suc n) [] = []
-cleared (suc n) (first ∷ row) = idle ∷ cleared n row

@@ -1,6 +1,6 @@
 // The lent row of records, reached by few thin functions: the length, one record out, one back, one
-// pass, what a call sees, and the first records made idle. Each has the row among its locals, so
-// each is walked by hand; what is decided of a record is decided by value.
+// pass, and what a call sees. Each has the row among its locals, so each is walked by hand; what is
+// decided of a record is decided by value.
 
 use machine::Record;
 use machine::Settings;
@@ -15,7 +15,7 @@ ghost use lib.ListN.{length, getD, set};
 ghost use Rattle.machine.specs.Records.{idle, isOut, recordInRange};
 ghost use Rattle.counting.specs.Counting.{tick, firstOr};
 ghost use Rattle.machine.specs.Memory.{viewOf};
-ghost use Rattle.rows.specs.Rows.{seenTo, cleared};
+ghost use Rattle.rows.specs.Rows.{seenTo};
 
 // What a pass has seen of the records before some index: the first out of range, that index where
 // none is, and how many are out.
@@ -126,17 +126,5 @@ pub fn look(s: Settings, row: &[Record], task: TaskId) -> View
         bad: seen.bad,
         out: seen.out,
         own: own,
-    }
-}
-
-// The first n records become idle, as far as there are any; the others stay.
-pub fn fill(row: &mut [Record], n: usize)
-    ensures { λ _. ⌜ now (row .exit) ≡ cleared n (now (row .entry)) ⌝ }
-{
-    let r = idle();
-    let mut i: usize = 0;
-    while i < n {
-        put(row, i, r);
-        i += 1;
     }
 }

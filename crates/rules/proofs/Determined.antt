@@ -1,23 +1,19 @@
 -- The contracts of `setup` and `decide` determine what is returned, whole and part by part, and the registers
 -- afterwards, row by row: two outcomes that they admit are equal.
 use mathlib.Core.Path.{_≡_, sym, ap, _∙_}
-use Rattle.machine.specs.{Memory.Memory, declared.{Settings.Settings, View.View, Event.Event}}
-use Rattle.rules.specs.Decision.{Decision, decision, decided, Preparation, preparation, prepared}
-use Rattle.rules.specs.declared.{Decided.Decided, Prepared.Prepared}
+use Rattle.machine.specs.{Memory.Memory, Calls.Outcome, Lent.leaves}
+use Rattle.machine.specs.declared.{Settings.Settings, View.View, Event.Event, Answer.Answer}
+use Rattle.rules.specs.Decision.{Decision, decision, decided, preparation}
+use Rattle.rules.specs.declared.Decided.{Decided}
 
--- `setup`: the answer and the count of fresh records, and the registers
-pub prepared-determined : (s : Settings) (seen : View) (before : Memory) (one other : Prepared) (m m′ : Memory)
-    → prepared one m ≡ preparation s seen before → prepared other m′ ≡ preparation s seen before
-    → (one ≡ other) × (one .answer ≡ other .answer) × (one .fresh ≡ other .fresh)
-    × (m ≡ m′) × (m .xs ≡ m′ .xs) × (m .marks ≡ m′ .marks)
+-- `setup`: the answer, and the registers
+pub prepared-determined : (s : Settings) (seen : View) (before : Memory) (one other : Answer) (m m′ : Memory)
+    → leaves one m ≡ preparation s seen before → leaves other m′ ≡ preparation s seen before
+    → (one ≡ other) × (m ≡ m′) × (m .xs ≡ m′ .xs) × (m .marks ≡ m′ .marks)
 prepared-determined s seen before one other m m′ p q =
-    let e : prepared one m ≡ prepared other m′ = p ∙ sym q in
-    let answers = ap (λ (all : Preparation). all .answer) e in
-    let counts = ap (λ (all : Preparation). all .fresh) e in
-    let left : m ≡ m′ = ap (λ (all : Preparation). all .memory) e in (
-      λ i. record { answer = answers i; fresh = counts i },
-      answers,
-      counts,
+    let e : leaves one m ≡ leaves other m′ = p ∙ sym q in
+    let left : m ≡ m′ = ap (λ (all : Outcome). all .memory) e in (
+      ap (λ (all : Outcome). all .answer) e,
       left,
       ap (λ (l : Memory). l .xs) left,
       ap (λ (l : Memory). l .marks) left,

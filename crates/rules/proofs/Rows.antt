@@ -1,19 +1,13 @@
 -- What it says that the tests of what is lent pass, and the verdict by its parts.
-use mathlib.Core.{Path.{_≡_, refl, ap, _∙_}, Bool.{Bool, true, false, not, cond}, List.[]}
+use mathlib.Core.{Path.{_≡_, refl, sym, ap, subst, _∙_}, Bool.{Bool, true, false, cond}, List.{List, [], _∷_}}
 use Prim.Native.Nat.{ℕ}
-use native.Mathlib.Omega.{arith}
 use lib.Dec.{T, ltb}
+use borrow.Author.Tests.{not-false}
 use Rattle.machine.specs.{Settings.permitted, Places.blocks, Memory.{Memory, marksNeeded, badX, badMark}}
-use Rattle.machine.specs.Refusals.{first, outsideLimits, rowShort, rangeCases, taskCases, verdict, setupVerdict}
+use Rattle.machine.specs.Refusals.{Case, when, first, outsideLimits, rowShort, rowBusy, lentCases, rangeCases, taskCases}
+use Rattle.machine.specs.Refusals.{verdict, setupVerdict}
 use Rattle.machine.specs.declared.{Settings.Settings, View.View, Kind.Kind, Refusal.Refusal, Verdict.Verdict}
-use Rattle.machine.proofs.refusals.Passed.{Long, none-short-long}
-
-lent-of : (ok short : Bool) (why other : Refusal)
-    → cond (not ok) (Verdict.Refused why) (cond short (Verdict.Refused other) Verdict.Accepted) ≡ Verdict.Accepted
-    → T ok × (short ≡ false)
-lent-of false short why other e = absurd (let z : _≡_ {A = ℕ} 0 1 = cc in omega arith)
-lent-of true true why other e = absurd (let z : _≡_ {A = ℕ} 0 1 = cc in omega arith)
-lent-of true false why other e = (tt, refl)
+use Rattle.machine.proofs.refusals.{Deciding.no-case, Passed.{Long, none-short-long}}
 
 -- the two tests of what is lent pass
 pub record LentPassed (s : Settings) (seen : View) (m : Memory) : Type 0 where
@@ -21,14 +15,18 @@ pub record LentPassed (s : Settings) (seen : View) (m : Memory) : Type 0 where
   pub none-is-short : rowShort s (seen .length) m ≡ false
   pub long : Long s (seen .length) m
 
-pub lent-passes : (s : Settings) (seen : View) (m : Memory) → setupVerdict s seen m ≡ Verdict.Accepted
-    → LentPassed s seen m
-lent-passes s seen m e =
-    let (limits, short) =
-    lent-of (permitted s) (rowShort s (seen .length) m) Refusal.Limits Refusal.ShortRow e in
-    record { limits = limits; none-is-short = short; long = none-short-long s (seen .length) m short }
+-- where a call's tests pass, those of what is lent do, whatever follows them
+pub lent-passes : (s : Settings) (seen : View) (m : Memory) (rest : List Case)
+    → first (lentCases s seen m rest) ≡ Verdict.Accepted → LentPassed s seen m
+lent-passes s seen m rest e =
+    let (inside, (short, later)) = no-case (lentCases s seen m rest) e in
+    record {
+      limits = subst T (sym (not-false (permitted s) inside)) tt;
+      none-is-short = short;
+      long = none-short-long s (seen .length) m short;
+    }
 
--- ---- the verdict by its three parts
+-- ---- the verdicts by their parts
 
 -- a first verdict, and if it seen-passed, a second
 abbrev pub then : Verdict → Verdict → Verdict
@@ -50,11 +48,18 @@ three-then false b c x y z later = two-then b c y z later
 
 pub verdict-parts : (s : Settings) (kind : Kind) (p : ℕ) (seen : View) (m : Memory)
     → verdict s kind p seen m
-    ≡ then (setupVerdict s seen m)
+    ≡ then (first (lentCases s seen m []))
     (then (first (rangeCases s seen m [])) (first (taskCases s kind p seen)))
 verdict-parts s kind p seen m =
     two-then (outsideLimits s) (rowShort s (seen .length) m) Refusal.Limits Refusal.ShortRow
     (first (rangeCases s seen m (taskCases s kind p seen)))
-    ∙ ap (then (setupVerdict s seen m))
+    ∙ ap (then (first (lentCases s seen m [])))
     (three-then (ltb (seen .bad) (s .n)) (ltb (badX s (m .xs)) (blocks s)) (ltb (badMark s (m .marks)) (marksNeeded s))
     _ _ _ (first (taskCases s kind p seen)))
+
+pub setup-parts : (s : Settings) (seen : View) (m : Memory)
+    → setupVerdict s seen m
+    ≡ then (first (lentCases s seen m [])) (first (when (rowBusy seen) Refusal.BusyRow ∷ []))
+setup-parts s seen m =
+    two-then (outsideLimits s) (rowShort s (seen .length) m) Refusal.Limits Refusal.ShortRow
+    (first (when (rowBusy seen) Refusal.BusyRow ∷ []))

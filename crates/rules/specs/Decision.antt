@@ -3,11 +3,11 @@
 use mathlib.Core.{Path._≡_, Bool.false, List.{List, []}}
 use Prim.Native.Nat.{ℕ, _<_}
 use lib.Dec.{T, ltb}
-use Rattle.machine.specs.{Places.blocks, Records.recordInRange, Memory.{Memory, marksNeeded, fill}}
-use Rattle.machine.specs.{Turn.{access, value, store}, Refusals.{setupVerdict, verdict}, Calls.{nextState, answerOf}}
+use Rattle.machine.specs.{Records.recordInRange, Memory.Memory, Turn.{access, value, store}}
+use Rattle.machine.specs.{Refusals.{setupVerdict, verdict}, Calls.{Outcome, refuseOr, nextState, answerOf, cleared}}
 use Rattle.machine.specs.declared.{Settings.Settings, Record.Record, View.View, Access.Access, Kind.Kind}
 use Rattle.machine.specs.declared.{Verdict.Verdict, Answer.Answer}
-use Rattle.rules.specs.declared.{Decided.Decided, Prepared.Prepared}
+use Rattle.rules.specs.declared.Decided.{Decided}
 
 -- the rows of X numbers and marks as a memory; the accesses touch no record
 abbrev pub rows : List ℕ → List ℕ → Memory
@@ -55,22 +55,6 @@ decided result m = record { answer = result .answer; own = result .own; memory =
 
 -- ---- setup
 
--- the answer, how many records are to be made idle, and the registers afterwards
-pub record Preparation : Type 0 where
-  pub answer : Answer
-  pub fresh : ℕ
-  pub memory : Memory
-
--- the needed registers become 0
-abbrev pub zeroed : Settings → Memory → Memory
-zeroed s m = rows (fill (blocks s) 0 (m .xs)) (fill (marksNeeded s) 0 (m .marks))
-
-abbrev pub preparationBy : Verdict → Settings → Memory → Preparation
-preparationBy Verdict.Accepted s m = record { answer = Answer.Done; fresh = s .n; memory = zeroed s m }
-preparationBy (Verdict.Refused why) s m = record { answer = Answer.Refused why; fresh = 0; memory = m }
-
-abbrev pub preparation : Settings → View → Memory → Preparation
-preparation s seen m = preparationBy (setupVerdict s seen m) s m
-
-abbrev pub prepared : Prepared → Memory → Preparation
-prepared result m = record { answer = result .answer; fresh = result .fresh; memory = m }
+-- setup without the row of records, of which the view tells enough: it writes none
+abbrev pub preparation : Settings → View → Memory → Outcome
+preparation s seen m = refuseOr (setupVerdict s seen m) m (record { answer = Answer.Done; memory = cleared s m })

@@ -22,20 +22,15 @@ ghost use lib.ListN.{length, getD};
 ghost use Rattle.machine.specs.Settings.{permitted};
 ghost use Rattle.machine.specs.Places.{blocks};
 ghost use Rattle.machine.specs.Memory.{marksNeeded, badX, badMark, fill};
-ghost use Rattle.machine.specs.Refusals.{first, rowShort, setupVerdict, rangeCases, taskCases, oneTimeRelease, wrongMoment, moment, tooManyOut, verdict};
+ghost use Rattle.machine.specs.Refusals.{first, rowShort, setupVerdict, lentCases, rangeCases, taskCases, oneTimeRelease, wrongMoment, moment, tooManyOut, verdict};
 ghost use Rattle.machine.specs.promises.OneAccess.{RegisterNeeded};
-ghost use Rattle.rules.specs.Decision.{rows, Sees, touched, touching, decided, decision, prepared, preparation};
+ghost use Rattle.rules.specs.Decision.{rows, Sees, touched, touching, decided, decision, preparation};
+ghost use Rattle.machine.specs.Lent.{leaves};
 
 // The answer of a call, and the task's record to put back.
 pub struct Decided {
     pub answer: Answer,
     pub own: Record,
-}
-
-// The answer of setup, and how many records are to be made idle.
-pub struct Prepared {
-    pub answer: Answer,
-    pub fresh: usize,
 }
 
 // The index of the first needed X number that is out of range; their count where none is.
@@ -166,7 +161,7 @@ fn too_many_out(s: Settings, kind: Kind, out: usize) -> bool
 
 // What the tests of what is lent say: 1, then 2.
 fn lent_verdict(s: Settings, seen: View, xs: &[u32], marks: &[u8]) -> Verdict
-    ensures { λ v. ⌜ v ≡ setupVerdict s seen (rows (now (xs .entry)) (now (marks .entry))) ⌝ }
+    ensures { λ v. ⌜ v ≡ first (lentCases s seen (rows (now (xs .entry)) (now (marks .entry))) []) ⌝ }
 {
     if !places::permitted(s) {
         return Verdict::Refused(Refusal::Limits);
@@ -239,6 +234,21 @@ fn verdict(s: Settings, kind: Kind, seen: View, xs: &[u32], marks: &[u8], task: 
     }
 }
 
+// What the tests of setup say: 1, 2, 18.
+fn setup_verdict(s: Settings, seen: View, xs: &[u32], marks: &[u8]) -> Verdict
+    ensures { λ v. ⌜ v ≡ setupVerdict s seen (rows (now (xs .entry)) (now (marks .entry))) ⌝ }
+{
+    match lent_verdict(s, seen, xs, marks) {
+        Verdict::Refused(why) => Verdict::Refused(why),
+        Verdict::Accepted => {
+            if 0 < seen.out {
+                return Verdict::Refused(Refusal::BusyRow);
+            }
+            Verdict::Accepted
+        }
+    }
+}
+
 // Makes the one access, and returns the value read; 0 where nothing is read.
 fn touch(s: Settings, access: Access, xs: &mut [u32], marks: &mut [u8]) -> u32
     requires { ⌜ T (permitted s) × RegisterNeeded s access × (blocks s ≤ length (now xs)) × (marksNeeded s ≤ length (now marks)) ⌝ }
@@ -298,23 +308,16 @@ fn clear_marks(marks: &mut [u8], n: usize)
     }
 }
 
-// Setup: the needed X numbers and marks become 0, and all N records are to be made idle; a refusal
-// changes nothing.
-pub fn setup(s: Settings, seen: View, xs: &mut [u32], marks: &mut [u8]) -> Prepared
-    ensures { λ p. ⌜ prepared p (rows (now (xs .exit)) (now (marks .exit))) ≡ preparation s seen (rows (now (xs .entry)) (now (marks .entry))) ⌝ }
+// Setup: the needed X numbers and marks become 0; a refusal changes nothing.
+pub fn setup(s: Settings, seen: View, xs: &mut [u32], marks: &mut [u8]) -> Answer
+    ensures { λ answer. ⌜ leaves answer (rows (now (xs .exit)) (now (marks .exit))) ≡ preparation s seen (rows (now (xs .entry)) (now (marks .entry))) ⌝ }
 {
-    match lent_verdict(s, seen, xs, marks) {
-        Verdict::Refused(why) => Prepared {
-            answer: Answer::Refused(why),
-            fresh: 0,
-        },
+    match setup_verdict(s, seen, xs, marks) {
+        Verdict::Refused(why) => Answer::Refused(why),
         Verdict::Accepted => {
             clear_xs(xs, places::blocks(s));
             clear_marks(marks, places::marks_needed(s));
-            Prepared {
-                answer: Answer::Done,
-                fresh: s.n as usize,
-            }
+            Answer::Done
         }
     }
 }

@@ -51,6 +51,7 @@ fn tell(answer: Answer) {
             number(name.0);
         }
         Answer::Refused(why) => match why {
+            Refusal::BusyRow => say(b"declines, a channel is out"),
             Refusal::TooManyOut => say(b"waits for a release"),
             Refusal::TaskIdle => say(b"has not asked"),
             Refusal::TaskSeeks => say(b"seeks already"),
@@ -59,6 +60,16 @@ fn tell(answer: Answer) {
         },
     }
     say(b"\n");
+}
+
+// Setup, and its line. It writes no record: a new supervisor clears them itself, with `fresh`.
+fn set_up(records: [Record; 256], xs: &mut [u32], marks: &mut [u8]) -> [Record; 256] {
+    let made = make(board(), Call::Setup, records, xs, marks);
+    let answer = made.answer;
+    say(b"setup ");
+    tell(answer);
+    let after = made.records;
+    after
 }
 
 // One call of a channel, and its line.
@@ -131,16 +142,14 @@ fn meet(
 fn main() {
     let mut xs = [0u32; 1];
     let mut marks = [0u8; 4];
-    let ready = make(board(), Call::Setup, fresh(), &mut xs, &mut marks);
-    let answer = ready.answer;
-    say(b"setup ");
-    tell(answer);
-    let records = ready.records;
+    let records = set_up(fresh(), &mut xs, &mut marks);
     let records = serve(records, &mut xs, &mut marks, Kind::Ask, 0);
     let records = serve(records, &mut xs, &mut marks, Kind::Ask, 1);
     // two are out, so a third has to wait
     let records = serve(records, &mut xs, &mut marks, Kind::Ask, 2);
     let records = meet(records, &mut xs, &mut marks, 0, 1);
+    // setup started a second time changes nothing: both keep their rows of the table
+    let records = set_up(records, &mut xs, &mut marks);
     // a release lets the next one in
     let records = serve(records, &mut xs, &mut marks, Kind::Release, 0);
     let records = serve(records, &mut xs, &mut marks, Kind::Ask, 2);

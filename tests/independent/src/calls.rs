@@ -22,7 +22,7 @@ pub struct Needed {
 }
 
 impl Needed {
-    pub fn new(rules: &dyn Rules, settings: Settings) -> Needed {
+    pub fn new<R: Rules + ?Sized>(rules: &R, settings: Settings) -> Needed {
         Needed {
             records: settings.tasks(),
             x: settings.blocks(),
@@ -37,6 +37,12 @@ impl Needed {
 }
 
 impl Memory {
+    /// Makes all needed X and marks 0.
+    pub fn clear_registers(&mut self, needed: &Needed) {
+        self.registers.x[..needed.x].fill(0);
+        self.registers.marks[..needed.marks].fill(0);
+    }
+
     /// Rows of just the needed length, as setup leaves them.
     pub fn idle(rules: &dyn Rules, settings: Settings) -> Memory {
         let needed = Needed::new(rules, settings);
@@ -67,17 +73,13 @@ impl fmt::Display for Answer {
     }
 }
 
-/// Setup tests 1 and 2.
+/// Setup tests 1, 2 and 18.
 pub fn setup(
     rules: &dyn Rules,
     settings: Settings,
     memory: &mut Memory,
 ) -> Result<Answer, Refusal> {
-    let needed = test_rows(rules, settings, memory)?;
-    memory.records[..needed.records].fill(Record::Idle);
-    memory.registers.x[..needed.x].fill(0);
-    memory.registers.marks[..needed.marks].fill(0);
-    Ok(Answer::Done)
+    rules.setup(settings, memory)
 }
 
 /// Ask tests 1 to 4, 16 and 17, then 7.
@@ -142,7 +144,11 @@ fn seeks_or_holds(rules: &dyn Rules, settings: Settings, record: Record) -> Answ
 }
 
 /// Tests 1 and 2: the settings, then the lengths of the rows.
-fn test_rows(rules: &dyn Rules, settings: Settings, memory: &Memory) -> Result<Needed, Refusal> {
+pub fn test_rows<R: Rules + ?Sized>(
+    rules: &R,
+    settings: Settings,
+    memory: &Memory,
+) -> Result<Needed, Refusal> {
     rules.test_settings(settings)?;
     let needed = Needed::new(rules, settings);
     if memory.records.len() < needed.records
@@ -173,7 +179,7 @@ fn test_task(
 }
 
 /// Test 3: the first needed value out of range: records, then X, then marks block by block.
-fn first_out_of_range(
+pub fn first_out_of_range(
     rules: &dyn Rules,
     settings: Settings,
     needed: &Needed,

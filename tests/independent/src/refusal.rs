@@ -41,6 +41,7 @@ pub enum Refusal {
     TaskIdle,
     TaskSeeking,
     TaskHolding,
+    BusyRow,
 }
 
 impl Refusal {
@@ -63,6 +64,7 @@ impl Refusal {
             Refusal::TaskIdle => 15,
             Refusal::TaskSeeking => 16,
             Refusal::TaskHolding => 17,
+            Refusal::BusyRow => 18,
         }
     }
 }

@@ -1,5 +1,7 @@
-//! 01, "Rules of the grid": what an accepted turn or release does, and the tests of the moment.
+//! 01, "Rules of the grid", with the requests of 02: what an accepted call does, and those tests that
+//! are easily misread.
 
+use crate::calls::{test_rows, Answer, Memory};
 use crate::grid::{x_of, Direction, Name, Out, Place, Point, Record, Registers, Settings};
 use crate::refusal::Refusal;
 use crate::schedule::Kind;
@@ -41,6 +43,16 @@ pub trait Rules: Sync {
     /// Whether the task of this record counts against k.
     fn counts(&self, record: Record) -> bool {
         record != Record::Idle
+    }
+
+    /// Setup: tests 1 and 2, then 18 (02, P4). The records are idle already, and none is written.
+    fn setup(&self, settings: Settings, memory: &mut Memory) -> Result<Answer, Refusal> {
+        let needed = test_rows(self, settings, memory)?;
+        if memory.records[..needed.records].iter().any(|record| *record != Record::Idle) {
+            return Err(Refusal::BusyRow);
+        }
+        memory.clear_registers(&needed);
+        Ok(Answer::Done)
     }
 
     /// 02, P1: the refusal of a call that the task's record does not allow.

@@ -118,6 +118,19 @@ fn edges(case: &CallCase) -> Vec<String> {
             let bad = marks.first().is_some_and(|mark| *mark > 1);
             edges.extend(bad.then(|| "records before marks".to_string()));
         }
+        (Call::Setup, Ok(_)) => {
+            let bad = x.first().is_some_and(|x| *x > u32::from(settings.n));
+            edges.extend(bad.then(|| "setup over a bad X".to_string()));
+            let busy = records[needed.records..].iter().any(|record| *record != Record::Idle);
+            edges.extend(busy.then(|| "setup beside a busy surplus".to_string()));
+        }
+        (Call::Setup, Err(Refusal::BusyRow)) => {
+            let busy = records.iter().position(|record| *record != Record::Idle);
+            let last = busy == needed.records.checked_sub(1);
+            edges.extend(last.then(|| "setup with the last record busy".to_string()));
+            let bad = busy.is_some_and(|busy| !records[busy].in_range(*settings));
+            edges.extend(bad.then(|| "setup with a bad record".to_string()));
+        }
         (Call::Ask(_), Err(Refusal::TooManyOut)) => {
             edges.extend(many_out.then(|| "ask with more than k out".to_string()));
         }
@@ -172,6 +185,10 @@ fn cases_and_stored_cases_have_the_edges() {
         "surplus records",
         "surplus x",
         "surplus marks",
+        "setup over a bad X",
+        "setup beside a busy surplus",
+        "setup with the last record busy",
+        "setup with a bad record",
     ];
     let wide = [65_536, 65_537, 1 << 31, u32::MAX].map(|x: u32| format!("X {x}"));
     let stored: BTreeSet<String> = store::cases().iter().flat_map(edges).collect();

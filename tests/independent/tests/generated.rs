@@ -122,6 +122,7 @@ fn calls_have_every_refusal_every_answer_and_every_point() {
             Err(Refusal::TaskIdle) => "15",
             Err(Refusal::TaskSeeking) => "16",
             Err(Refusal::TaskHolding) => "17",
+            Err(Refusal::BusyRow) => "18",
             Err(_) => "another",
         });
         let (Call::Turn(id), Ok(_)) = (case.call, case.answer) else {
@@ -143,5 +144,5 @@ fn calls_have_every_refusal_every_answer_and_every_point() {
             });
         }
     }
-    assert_eq!(seen.len(), 15 + 11, "{seen:?}");
+    assert_eq!(seen.len(), 16 + 11, "{seen:?}");
 }

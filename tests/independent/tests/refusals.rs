@@ -128,8 +128,42 @@ fn surplus_is_neither_tested_nor_counted_nor_changed() {
     assert_eq!(turn(&Grid, settings, Identifier(1), &mut memory), Ok(Answer::Seeks));
     assert_eq!(memory.registers.x, [2, 999]);
     assert_eq!(ask(&Grid, settings, Identifier(2), &mut memory), Err(Refusal::Identifier));
+    memory.records[..2].fill(Record::Idle);
     assert_eq!(setup(&Grid, settings, &mut memory), Ok(Answer::Done));
     assert_eq!(memory, surplus);
+}
+
+/// 02, P4: setup tests 1, 2 and 18; a record out of range is other than idle.
+#[test]
+fn setup_declines_a_busy_row() {
+    let settings = Settings::new(1, 3, 3);
+    let place = Place { r: 0, c: 0 };
+    let mut memory = Memory::idle(&Grid, settings);
+    memory.registers.x.fill(u32::MAX);
+    memory.registers.marks.fill(255);
+    let refused = |settings, memory: &Memory, refusal| {
+        let mut after = memory.clone();
+        assert_eq!(setup(&Grid, settings, &mut after), Err(refusal));
+        assert_eq!(after, *memory);
+    };
+    for (at, record) in [
+        (0, Record::Seeking(place, Point::WriteX)),
+        (1, Record::Holding(place)),
+        (2, bad_record()),
+        (2, Record::Seeking(place, Point::Scan(3))),
+    ] {
+        let mut busy = memory.clone();
+        busy.records[at] = record;
+        refused(settings, &busy, Refusal::BusyRow);
+        refused(Settings::new(1, 3, 4), &busy, Refusal::Settings);
+        busy.registers.marks.pop();
+        refused(settings, &busy, Refusal::ShortRow);
+    }
+    memory.records.extend([bad_record(), Record::Holding(place)]);
+    let records = memory.records.clone();
+    assert_eq!(setup(&Grid, settings, &mut memory), Ok(Answer::Done));
+    assert_eq!(memory.records, records);
+    assert_eq!(memory.registers, Memory::idle(&Grid, settings).registers);
 }
 
 #[test]

@@ -1,24 +1,19 @@
--- `setup`: look, decide by `rules`, make the records idle.
+-- `setup`: look, and decide by `rules`; the records stay.
 use Rattle.walks.proofs.Prelude.{refl, List, [], _∷_, lit<, length, URA, fullShare, Model, Heap, Lfts, Shares}
-use Rattle.walks.proofs.Prelude.{GhostRules, Running, givenOf, Given, named, RefT, Room, owed, owes, emp, id⊢, factI}
-use Rattle.walks.proofs.Prelude.{_$_, !, by, move, agg, of-opd, lit, and-then, no-more, Args, Lasts, AllReal, Real}
-use Rattle.walks.proofs.Prelude.{typed, Body, hears, calls, exits, meets, leaves, copies, copies-all, copies-field}
-use Rattle.walks.proofs.Prelude.{points-to, refers, sets, lands-in, gives, under, lends-shared, shared-back}
-use Rattle.machine.specs.Memory.{Memory, viewOf}
+use Rattle.walks.proofs.Prelude.{GhostRules, Running, givenOf, Given, named, RefT, Room, finally, owes, emp, id⊢, factI}
+use Rattle.walks.proofs.Prelude.{_$_, !, ‵, use1, by, move, agg, lit, and-then, no-more, Args, Lasts, AllReal, Real}
+use Rattle.walks.proofs.Prelude.{typed, Body, hears, calls, exits, meets, leaves, copies-all}
+use Rattle.walks.proofs.Prelude.{points-to, refers, sets, lands-in, gives, under, lends-shared, shared-back, settled}
+use Rattle.machine.specs.{Memory.{Memory, viewOf}, Calls.Outcome}
 use Rattle.machine.specs.declared.{Record.Record, Settings.Settings, TaskId.TaskId, View.View}
-use Rattle.rows.specs.Rows.{cleared}
-use Rattle.rows.proofs.{Cleared.cleared-length, Functions.{R, task-data, view-data, look-fn, fill-fn}}
-use Rattle.rules.specs.{Decision.{rows, Preparation, preparation}, declared.Prepared.Prepared}
-use Rattle.calls.proofs.Functions.{answer-data, prepared-data, decide-setup-fn, setup-fn}
+use Rattle.rows.proofs.Functions.{R, task-data, view-data, look-fn}
+use Rattle.rules.specs.Decision.{rows, preparation}
+use Rattle.calls.proofs.Functions.{answer-data, decide-setup-fn, setup-fn}
 use Rattle.calls.proofs.{ByDecision.by-preparation, setup.{Key.name as key, Statement.statement}}
 use Rattle.machine.proofs.TaskId as I
 use Rattle.machine.proofs.TaskId.Laws as I′
 use Rattle.rows.proofs.look.Symbol as look
 use Rattle.rows.proofs.look.Met as look-met
-use Rattle.rows.proofs.fill.Symbol as fill
-use Rattle.rows.proofs.fill.Met as fill-met
-use Rattle.rules.proofs.Prepared as P
-use Rattle.rules.proofs.Prepared.Laws as P′
 use Rattle.rules.proofs.setup as deciding
 use Rattle.rules.proofs.setup.Symbol as decide
 use Rattle.rules.proofs.setup.Met as decide-met
@@ -58,24 +53,15 @@ module _ {M : Type 1} (𝓤 : URA M) (H : Heap 𝓤) (𝓜 : Model 𝓤 H) (𝓖
   abbrev to : Args deciding.signature (κs .1)
   to = (s, (seen, a .1 .1))
 
-  abbrev chosen : Preparation
+  abbrev chosen : Outcome
   chosen = preparation s seen registers
-
-  abbrev prepared : Prepared
-  prepared = record { answer = chosen .answer; fresh = chosen .fresh }
-
-  answer-is : Real prepared-data prepared → Real answer-data (prepared .answer)
-  answer-is is = owed P.the-type P′.the-laws prepared _ is .0
-
-  abbrev records′ : List Record
-  records′ = cleared (prepared .fresh) (records .now)
 
   -- the registers' last values
   abbrev lasts : Memory → Lasts deciding.ended (κs .1) to
   lasts m = (tt, (tt, (m .xs, (m .marks, tt))))
 
   walk : Body setup-fn 𝓤 H 𝓜 𝓖 𝓡 κs qs tt a tt code.env code.function
-  walk l₀ l₁ l₂ l₃ l₄ l₅ l₆ l₇ l₈ l₉ l₁₀ l₁₁ l₁₂ l₁₃ l₁₄ l₁₅ l₁₆ =
+  walk l₀ l₁ l₂ l₃ l₄ l₅ l₆ l₇ l₈ l₉ l₁₀ l₁₁ l₁₂ =
       sets ! (points-to ! refl refl refl refl) refl (tt, tt) $
       sets ! (refers ! refl refl refl refl) refl (tt, (tt, (record { fits = room .0 }, tt))) $
       sets ! (agg ! (and-then ! (lit ! tt) (no-more !))) refl (typed task-data W zero zero-is .0) $
@@ -92,30 +78,21 @@ module _ {M : Type 1} (𝓤 : URA M) (H : Heap 𝓤) (𝓜 : Model 𝓤 H) (𝓖
       sets ! (points-to ! refl refl refl refl) refl (tt, tt) $
       sets ! (refers ! refl refl refl refl) refl (tt, (tt, (record { fits = real .1 .1 .1 .0 .0 .1 .0 }, tt))) $
       move ! (2 ∷ 3 ∷ 4 ∷ 5 ∷ []) $
-      calls decide-setup-fn 𝓤 H 𝓜 𝓖 𝓡 (κs .1) (qs .1) tt to tt prepared (lasts (chosen .memory))
-      (λ r us. hears 𝓤 (λ e. (λ k. record { answer = e k .answer; fresh = e k .fresh }, λ k. lasts (e k .memory))))
+      calls decide-setup-fn 𝓤 H 𝓜 𝓖 𝓡 (κs .1) (qs .1) tt to tt (chosen .answer) (lasts (chosen .memory))
+      (λ r us. hears 𝓤 (λ e. (λ k. e k .answer, λ k. lasts (e k .memory))))
       (id⊢ 𝓤 _) (real .0, (seen-is, (tt, (tt, tt))))
       (decide-met.met 𝓤 H 𝓜 𝓖 𝓡) code.env decide.name code.calls-rules·setup ! refl (copies-all ! refl refl)
-      (λ prepared-is known.
-      lands-in ! refl (typed prepared-data W prepared prepared-is .0) $
-      sets ! (points-to ! refl refl refl refl) refl (tt, tt) $
-      sets ! (refers ! refl refl refl refl) refl (tt, (tt, (record { fits = room .0 }, tt))) $
-      move ! (4 ∷ 5 ∷ []) $
-      calls fill-fn 𝓤 H 𝓜 𝓖 𝓡 (κs .0, tt) (qs .0, tt) tt (records, (prepared .fresh, tt)) tt tt (records′, (tt, tt))
-      (λ r us. hears 𝓤 (λ e. (refl, λ k. (e k, (tt, tt))))) (id⊢ 𝓤 _)
-      (tt, (owed P.the-type P′.the-laws prepared _ prepared-is .1 .0, tt))
-      (fill-met.met 𝓤 H 𝓜 𝓖 𝓡) code.env fill.name code.calls-rows·fill ! refl
-      (and-then ! (copies ! refl) (and-then ! (copies-field ! refl refl refl) (no-more !))) (λ _ _.
-      lands-in ! refl (tt, tt) $
-      sets ! (of-opd ! (copies-field ! refl refl refl)) refl
-      (typed answer-data W (prepared .answer) (answer-is prepared-is) .0) $
+      (λ answer-is known.
+      move ! (5 ∷ 4 ∷ []) $
+      use1 W (‵ (finally R (records .name) (records .now))) (settled 𝓤 H (𝓖 .A) W R (named 0) (κs .0) records) $
+      move ! (1 ∷ 0 ∷ []) $
+      lands-in ! refl (typed answer-data W (chosen .answer) answer-is .0) $
       gives ! refl $
       leaves ! refl $
       move ! (0 ∷ 2 ∷ 3 ∷ 1 ∷ []) $
-      by ! (exits setup-fn 𝓤 H 𝓜 𝓖 𝓡 κs qs tt a tt (prepared .answer) (tt, (records′, lasts (chosen .memory) .1 .1))
-      (answer-is prepared-is)
-      (tt, (cleared-length (prepared .fresh) (records .now), known .1 .1))
-      (factI 𝓤 _ (emp 𝓤) (by-preparation s (records .now) registers)))))))
+      by ! (exits setup-fn 𝓤 H 𝓜 𝓖 𝓡 κs qs tt a tt (chosen .answer) (tt, (records .now, lasts (chosen .memory) .1 .1))
+      answer-is (tt, (refl, known .1 .1))
+      (factI 𝓤 _ (emp 𝓤) (by-preparation s (records .now) registers))))))
 
 pub setup-spec : {M : Type 1} → statement M
 unfolding code.routine

@@ -1,19 +1,17 @@
 -- What an accepted setup leaves: a memory that passes the tests 1 to 3, with every task idle.
-use mathlib.Core.{Path.{_≡_, refl, sym, ap, subst, _∙_}, Bool.{Bool, true, false}, List.{List, [], _∷_}}
+use mathlib.Core.{Path.{_≡_, refl, ap, _∙_}, List.List}
 use Prim.Native.Nat.{ℕ, _≤_, _<_, zero-le}
 use native.Mathlib.Omega.{arith}
-use lib.Dec.{T, le→leb}
+use lib.Dec.{le→leb}
 use lib.ListN.{length, getD, replicate, drop, length-append, length-replicate, getD-replicate, List·getD-append}
-use borrow.Author.Tests.{not-false}
-use Rattle.machine.specs.{Settings.permitted, Places.blocks, Records.{idle, isOut}}
-use Rattle.machine.specs.Memory.{Memory, marksNeeded, stateOf, outOf, fill}
-use Rattle.machine.specs.Refusals.{first, when, outsideLimits, rowShort}
-use Rattle.machine.specs.Calls.{Outcome, refuseOr, cleared, setup}
-use Rattle.machine.specs.promises.{Demands.SetUp, Ranges.WithinLimits}
-use Rattle.machine.specs.declared.{Settings.Settings, State.the-variants.Idle, Record.Record}
-use Rattle.machine.specs.declared.{Refusal.the-variants.{Limits, ShortRow}, Answer.Answer}
-use Rattle.counting.proofs.Searching.{count-none}
-use Rattle.machine.proofs.refusals.{Passed.Fit, Limits.limits}
+use Rattle.machine.specs.{Places.blocks, Records.isOut}
+use Rattle.machine.specs.Memory.{Memory, marksNeeded, stateOf, outOf, viewOf, fill}
+use Rattle.machine.specs.{Refusals.setupVerdict, Answers.said, Calls.{refuseOr, cleared, setup}}
+use Rattle.machine.specs.promises.{Demands.SetUp, Ranges.WithinLimits, Refusing.{NoneHolds, setupLines}}
+use Rattle.machine.specs.declared.{Settings.Settings, State.the-variants.Idle, Verdict.Verdict, Answer.Answer}
+use Rattle.counting.proofs.{Tested.{misses, cannot-fail}, Searching.count-none}
+use Rattle.machine.proofs.refusals.{Lines.{short-line, idle-tested}, Refusing.{within, started, setup-exactly}}
+use Rattle.machine.proofs.refusals.Passed.{Long, Fit, none-short-long}
 
 -- ---- rows that were filled
 
@@ -27,49 +25,46 @@ fill-at n i a d l h =
 
 -- ---- an accepted setup
 
-two-tests : (a b : Bool) (m : Memory) (o : Outcome)
-    → refuseOr (first (when a Limits ∷ when b ShortRow ∷ [])) m o .answer ≡ Answer.Done → (a ≡ false) × (b ≡ false)
-two-tests true b m o e = absurd (let z : _≡_ {A = ℕ} 0 1 = cc in omega arith)
-two-tests false true m o e = absurd (let z : _≡_ {A = ℕ} 0 1 = cc in omega arith)
-two-tests false false m o e = (refl, refl)
-
 module _ (s : Settings) (lent : Memory) (ok : SetUp s lent) where
-  both : (outsideLimits s ≡ false) × (rowShort s (length (lent .records)) lent ≡ false)
-  both = two-tests (outsideLimits s) (rowShort s (length (lent .records)) lent) lent
-      (record { answer = Answer.Done; memory = cleared s lent }) ok
+  -- it meets no line of its table
+  met-none : NoneHolds (setupLines s lent)
+  met-none = setup-exactly s lent .accepted .0 (ap (λ (answer : Answer). said answer .number) ok)
 
   pub setup-within : WithinLimits s
-  setup-within = limits s (subst T (sym (not-false (permitted s) (both .0))) tt)
+  setup-within = within s (met-none .0)
+
+  pub lent-long : Long s (length (lent .records)) lent
+  lent-long =
+      none-short-long s (length (lent .records)) lent (misses (short-line s setup-within lent) (met-none .1 .0))
+
+  -- the records were idle before
+  pub lent-idle : (p : ℕ) → p < s .n → stateOf lent p ≡ Idle
+  lent-idle p l = cannot-fail (idle-tested (stateOf lent p)) (λ other. met-none .1 .1 .0 (p, l, other))
 
   pub setup-memory : setup s lent .memory ≡ cleared s lent
-  setup-memory = rw (both .0, both .1)
+  setup-memory = go (setupVerdict s (viewOf s (lent .records) 0) lent) ok
+    where
+      go : (v : Verdict) → refuseOr v lent (started s lent) .answer ≡ Answer.Done
+          → refuseOr v lent (started s lent) .memory ≡ cleared s lent
+      go Verdict.Accepted e = refl
+      go (Verdict.Refused why) e = absurd (let z : _≡_ {A = ℕ} 0 1 = cc in omega arith)
 
--- ---- what is then in range
+  pub fresh-fit : Fit s (setup s lent .memory)
+  fresh-fit = rw setup-memory (record {
+    long = record {
+      records = lent-long .records;
+      xs = fill-long (blocks s) 0 (lent .xs);
+      marks = fill-long (marksNeeded s) 0 (lent .marks);
+    };
+    in-range = record {
+      records = λ p l. rw (lent-idle p l) tt;
+      xs = λ block l. rw (fill-at (blocks s) block 0 0 (lent .xs) l) (le→leb 0 (s .n) zero-le);
+      marks = λ index l. rw (fill-at (marksNeeded s) index 0 0 (lent .marks) l) tt;
+    };
+  })
 
-cleared-fit : (s : Settings) (lent : Memory) → Fit s (cleared s lent)
-cleared-fit s lent = record {
-  long = record {
-    records = fill-long (s .n) idle (lent .records);
-    xs = fill-long (blocks s) 0 (lent .xs);
-    marks = fill-long (marksNeeded s) 0 (lent .marks);
-  };
-  in-range = record {
-    records = λ p l. rw (fill-at (s .n) p idle idle (lent .records) l) tt;
-    xs = λ block l. rw (fill-at (blocks s) block 0 0 (lent .xs) l) (le→leb 0 (s .n) zero-le);
-    marks = λ index l. rw (fill-at (marksNeeded s) index 0 0 (lent .marks) l) tt;
-  };
-}
+  pub fresh-idle : (p : ℕ) → p < s .n → stateOf (setup s lent .memory) p ≡ Idle
+  fresh-idle p l = rw setup-memory (lent-idle p l)
 
-pub fresh-fit : (s : Settings) (lent : Memory) → SetUp s lent → Fit s (setup s lent .memory)
-fresh-fit s lent ok = rw (setup-memory s lent ok) (cleared-fit s lent)
-
-pub fresh-idle : (s : Settings) (lent : Memory) → SetUp s lent → (p : ℕ) → p < s .n
-    → stateOf (setup s lent .memory) p ≡ Idle
-fresh-idle s lent ok p l = rw (setup-memory s lent ok)
-    (ap (λ (r : Record). r .state) (fill-at (s .n) p idle idle (lent .records) l))
-
-pub fresh-none-out : (s : Settings) (lent : Memory) → SetUp s lent → outOf s (setup s lent .memory .records) ≡ 0
-fresh-none-out s lent ok =
-    rw (setup-memory s lent ok)
-    (count-none (λ p. isOut (getD (fill (s .n) idle (lent .records)) p idle .state)) (s .n)
-    (λ p l. rw (fill-at (s .n) p idle idle (lent .records) l)))
+  pub fresh-none-out : outOf s (setup s lent .memory .records) ≡ 0
+  fresh-none-out = rw setup-memory (count-none (λ p. isOut (stateOf lent p)) (s .n) (λ p l. rw (lent-idle p l)))

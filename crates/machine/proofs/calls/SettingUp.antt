@@ -1,13 +1,26 @@
--- Setup is done exactly where the settings are permitted and the rows long enough, and clears what is needed.
-use mathlib.Core.Path.{_≡_, refl, ap, _∙_}
-use lib.Dec.{T}
+-- Setup is done exactly where the settings are permitted, the rows long enough and the records idle, and clears what is
+-- needed.
+use mathlib.Core.{Path.{_≡_, refl, ap, ap₂, _∙_}, List.{List, [], _∷_}}
+use Prim.Native.Nat.{ℕ, zero, suc, _≤_, _<_}
+use native.Mathlib.{Nat.{not-suc-le-zero, le-of-suc-le-suc}, Omega.arith}
+use lib.{Dec.T, ListN.{length, getD, take, replicate}}
 use Rattle.machine.specs.{Places.blocks, Records.idle, Memory.{Memory, marksNeeded, viewOf}}
 use Rattle.machine.specs.{Refusals.setupVerdict, Answers.{said, isAccepted}, Calls.{refuseOr, setup}}
-use Rattle.machine.specs.declared.{Settings.Settings, Verdict.Verdict, Answer.Answer}
+use Rattle.machine.specs.declared.{Settings.Settings, State.{State, the-variants.Idle}, Record.Record}
+use Rattle.machine.specs.declared.{Verdict.Verdict, Answer.Answer}
 use Rattle.machine.specs.promises.{Refusing.{NoneHolds, setupLines, setupSays}, Surplus.needed}
 use Rattle.machine.specs.promises.SettingUp.{clear, EachSetupClears}
-use Rattle.machine.proofs.calls.{Fresh.setup-memory, Surplus.{same-rows, fill-needed}}
+use Rattle.machine.proofs.calls.{Fresh.{setup-memory, lent-long, lent-idle}, Surplus.{same-rows, fill-needed}}
 use Rattle.machine.proofs.refusals.Refusing.{accepted-zero, started, setup-exactly}
+
+-- idle records, one by one and together
+all-idle : (records : List Record) (n : ℕ) → n ≤ length records
+    → ((p : ℕ) → p < n → getD records p idle .state ≡ Idle) → take n records ≡ replicate n idle
+all-idle records zero long each = refl
+all-idle [] (suc n) long each = absurd (not-suc-le-zero long)
+all-idle (first ∷ records) (suc n) long each =
+    ap₂ (λ (state : State) (rest : List Record). record { state = state } ∷ rest) (each 0 (omega arith))
+    (all-idle records n (le-of-suc-le-suc long) (λ p l. each (suc p) (omega arith)))
 
 module _ (s : Settings) (m : Memory) where
   -- what an accepted setup answers
@@ -28,8 +41,21 @@ module _ (s : Settings) (m : Memory) where
   clears : NoneHolds (setupLines s m) → needed s (setup s m .memory) ≡ clear s
   clears none =
       ap (needed s) (setup-memory s m (lent-done none))
-      ∙ same-rows (fill-needed (s .n) idle (m .records)) (fill-needed (blocks s) 0 (m .xs))
+      ∙ same-rows (all-idle (m .records) (s .n) (lent-long s m (lent-done none) .records) (lent-idle s m (lent-done none)))
+      (fill-needed (blocks s) 0 (m .xs))
       (fill-needed (marksNeeded s) 0 (m .marks))
 
+-- accepted or not, setup writes no record
+records-stay : (s : Settings) (m : Memory) → setup s m .memory .records ≡ m .records
+records-stay s m = go (setupVerdict s (viewOf s (m .records) 0) m)
+  where
+    go : (verdict : Verdict) → refuseOr verdict m (started s m) .memory .records ≡ m .records
+    go Verdict.Accepted = refl
+    go (Verdict.Refused why) = refl
+
 pub setup-clears : EachSetupClears
-setup-clears s m = record { done = (done-lent s m, lent-done s m); clears = clears s m }
+setup-clears s m = record {
+  done = (done-lent s m, lent-done s m);
+  clears = clears s m;
+  writes-no-record = records-stay s m;
+}

@@ -41,7 +41,7 @@ module _ (s : Settings) (m : Memory) where
   record-surplus p new low = same-rows (drop-set-lt (s .n) (m .records) p new low) refl refl
 
   cleared-surplus : surplus s (cleared s m) ≡ surplus s m
-  cleared-surplus = same-rows (beyond-fill (s .n) idle (m .records)) (beyond-fill (blocks s) 0 (m .xs))
+  cleared-surplus = same-rows refl (beyond-fill (blocks s) 0 (m .xs))
       (beyond-fill (marksNeeded s) 0 (m .marks))
 
 accepted-in : (s : Settings) (event : Event) (m : Memory) → verdictOf s event m ≡ Verdict.Accepted
@@ -177,10 +177,10 @@ call-cut s event m = rw (same-verdict s m event) (go (verdictOf s event m) refl)
     go (Verdict.Refused why) e = refl
 
 setup-cut : (s : Settings) (m : Memory) → setup s (needed s m) ≡ cut s (setup s m)
-setup-cut s m = rw (same-short s m) (go (setupVerdict s (viewOf s (m .records) 0) m))
+setup-cut s m = rw (same-short s m, same-out s m) (go (setupVerdict s (viewOf s (m .records) 0) m))
   where
     filled : cleared s (needed s m) ≡ needed s (cleared s m)
-    filled = same-rows (needed-fill (s .n) idle (m .records)) (needed-fill (blocks s) 0 (m .xs))
+    filled = same-rows refl (needed-fill (blocks s) 0 (m .xs))
         (needed-fill (marksNeeded s) 0 (m .marks))
 
     go : (verdict : Verdict) → refuseOr verdict (needed s m) (started s (needed s m)) ≡ cut s

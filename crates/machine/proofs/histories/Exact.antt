@@ -5,19 +5,19 @@ use Prim.Native.Nat.{ℕ, _≤_}
 use native.Mathlib.Nat.{mul-le-mul}
 use lib.{Dec.T, ListN.{length, replicate, length-replicate}}
 use borrow.Author.Tests.{le-ltb, not-false}
-use Rattle.machine.specs.{Places.blocks, Records.{idle, isSeeking}}
-use Rattle.machine.specs.{Memory.{Memory, marksNeeded, stateOf, largest}, Answers.isAccepted}
+use Rattle.machine.specs.{Places.blocks, Records.{idle, isSeeking, isOut}}
+use Rattle.machine.specs.{Memory.{Memory, marksNeeded, stateOf, outOf, largest}, Answers.isAccepted}
 use Rattle.machine.specs.Calls.{Outcome, call, setup, turn}
 use Rattle.machine.specs.promises.Ranges.{WithinLimits}
 use Rattle.machine.specs.promises.Demands.{SetUp, memoryAfter, historyOf, Seeks, HoldsSome, allAccepted}
 use Rattle.machine.specs.promises.Demands.{NeedsBound}
-use Rattle.machine.specs.declared.{Settings.Settings, Event.Event}
+use Rattle.machine.specs.declared.{Settings.Settings, Record.Record, Event.Event}
 use Rattle.machine.proofs.histories.{Worst.worst, Leads.{EndsWith, last-accepted, used-written}}
 use Rattle.machine.proofs.histories.{WorstTurns.{worst-turns, worst-last}, WorstRun.worst-run}
 use Rattle.machine.proofs.refusals.Limits.{limits-tested, width-most}
 use Rattle.machine.proofs.calls.{Fresh.setup-within, Outcomes.{Called, taken, refused, called}}
 use Rattle.machine.proofs.bridge.Histories.{always-in-order}
-use Rattle.counting.proofs.Tested.{passes}
+use Rattle.counting.proofs.{Tested.passes, Lists.one-value, Searching.count-none}
 use Rattle.grid.proofs.Triangle.{half-most}
 
 -- ---- the worst schedule
@@ -63,13 +63,14 @@ worst-needs-bound s lent ok =
 
 pub setup-takes-long-rows : (s : Settings) (m : Memory) → WithinLimits s → s .n ≤ length (m .records)
     → blocks s ≤ length (m .xs)
-    → marksNeeded s ≤ length (m .marks) → SetUp s m
-setup-takes-long-rows s m fair a b c =
+    → marksNeeded s ≤ length (m .marks) → outOf s (m .records) ≡ 0 → SetUp s m
+setup-takes-long-rows s m fair a b c none =
     rw (
       passes (limits-tested s) fair,
       le-ltb (length (m .records)) (s .n) a,
       le-ltb (length (m .xs)) (blocks s) b,
       le-ltb (length (m .marks)) (marksNeeded s) c,
+      none,
     )
 
 long : {A : Type 0} (n : ℕ) (a : A) (need : ℕ) → need ≤ n → need ≤ length (replicate n a)
@@ -80,3 +81,5 @@ setup-takes-largest s bounds =
     let few = half-most (s .k) (bounds .k-most) in
     setup-takes-long-rows s largest bounds (long 256 idle (s .n) (bounds .n-most)) (long {A = ℕ} 120 0 (blocks s) few)
     (long {A = ℕ} 30720 0 (marksNeeded s) (mul-le-mul few (width-most s bounds)))
+    (count-none (λ p. isOut (stateOf largest p)) (s .n)
+    (λ p l. ap (λ (r : Record). isOut (r .state)) (one-value 256 p idle)))

@@ -8,7 +8,7 @@ use lib.Dec.{T, eqb, T-not}
 use Rattle.machine.specs.{Refusals.{Case, first}, Answers.{Said, refusalSaid, numberOf}}
 use Rattle.machine.specs.promises.Refusing.{Line, NoneHolds, FirstHolds, RefusedExactly, Numbered, NoOtherNumber}
 use Rattle.machine.specs.declared.Refusal.{Refusal}
-use Rattle.machine.specs.declared.Refusal.the-variants.{Limits, ShortRow, OutOfRange, NoSuchTask, OneTime}
+use Rattle.machine.specs.declared.Refusal.the-variants.{Limits, ShortRow, BusyRow, OutOfRange, NoSuchTask, OneTime}
 use Rattle.machine.specs.declared.Refusal.the-variants.{TaskIdle, TaskSeeks, TaskHolds, TooManyOut, FileLength, Letters}
 use Rattle.machine.specs.declared.Refusal.the-variants.{Version, TooManyEvents, EventCode, NoEvent, ShortRoom}
 use Rattle.machine.specs.declared.Verdict.{Verdict, the-variants.{Accepted, Refused}}
@@ -21,6 +21,7 @@ pub refusal-says : (why : Refusal)
     → (1 ≤ numberOf why) × ((numberOf why ≡ 3 → ⊥) → refusalSaid why .values ≡ []) × (numberOf why ≡ 6 → ⊥)
 refusal-says Limits = (omega arith, λ other. refl, λ six. omega arith)
 refusal-says ShortRow = (omega arith, λ other. refl, λ six. omega arith)
+refusal-says BusyRow = (omega arith, λ other. refl, λ six. omega arith)
 refusal-says (OutOfRange row index) = (omega arith, λ other. absurd (other refl), λ six. omega arith)
 refusal-says NoSuchTask = (omega arith, λ other. refl, λ six. omega arith)
 refusal-says OneTime = (omega arith, λ other. refl, λ six. omega arith)

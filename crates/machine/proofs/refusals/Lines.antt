@@ -8,7 +8,7 @@ use Rattle.machine.specs.Records.{isIdle, isSeeking, isHolding, isOut, p
 use Rattle.machine.specs.Memory.{Memory, marksNeeded, recordOf, stateOf, xInRange, markInRange, outOf}
 use Rattle.machine.specs.Refusals.{Case, when, first, rowShort, oneTimeRelease, wrongMoment, moment, tooManyOut}
 use Rattle.machine.specs.promises.Ranges.{WithinLimits, NeedsMore, PointWithin, StateWithin, BadAt, seeksOrHolds}
-use Rattle.machine.specs.promises.Refusing.{SomeRowShort, OfIdle, OfSeeking, OfHolding, tasksOut}
+use Rattle.machine.specs.promises.Refusing.{SomeRowShort, OfIdle, OfSeeking, OfHolding, SomeBusy, tasksOut}
 use Rattle.machine.specs.declared.Settings.{Settings}
 use Rattle.machine.specs.declared.Point.{Point, the-variants.{WriteX, Scan, WriteMark, ReadX, Clear}}
 use Rattle.machine.specs.declared.State.{State, the-variants.{Idle, Seeking, Holding}}
@@ -16,7 +16,7 @@ use Rattle.machine.specs.declared.Kind.{Kind, the-variants.{Ask, Turn, R
 use Rattle.machine.specs.declared.{Row.{Row, the-variants.{Records, Xs, Marks}}, Refusal.the-variants.{TaskIdle, TaskSeeks, TaskHolds}}
 use Rattle.grid.specs.Triangle.{half}
 use Rattle.counting.proofs.Tested.{Tested, below, most, same, both, either, fails, meaning, always, never, misses}
-use Rattle.counting.proofs.Searching.{count-same}
+use Rattle.counting.proofs.{Searching.count-same, Some.some-counted}
 
 -- ---- 2: a lent row is shorter than needed
 
@@ -162,6 +162,15 @@ pub moment-as-three : (kind : Kind) (state : State) (rest : List Case)
 moment-as-three kind Idle rest = refl
 moment-as-three kind (Seeking r c point) rest = refl
 moment-as-three kind (Holding r c) rest = refl
+
+-- 18: a record of the N is other than idle
+pub idle-tested : (state : State) → Tested (isIdle state) (state ≡ Idle)
+idle-tested Idle = always refl
+idle-tested (Seeking r c point) = never (λ e. let z : _≡_ {A = ℕ} 0 1 = cc in omega arith)
+idle-tested (Holding r c) = never (λ e. let z : _≡_ {A = ℕ} 0 1 = cc in omega arith)
+
+pub busy-line : (s : Settings) (m : Memory) → Tested (ltb 0 (outOf s (m .records))) (SomeBusy s m)
+busy-line s m = some-counted (λ p. isOut (stateOf m p)) (λ p. fails (idle-tested (stateOf m p))) (s .n)
 
 -- 7
 out-same : (state : State) → isOut state ≡ seeksOrHolds state

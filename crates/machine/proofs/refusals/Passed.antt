@@ -62,7 +62,7 @@ none-short-long s count m e =
 
 -- ---- a fit memory leaves the tests of the task
 
-none-short : (s : Settings) (m : Memory) → Fit s m → rowShort s (length (m .records)) m ≡ false
+pub none-short : (s : Settings) (m : Memory) → Fit s m → rowShort s (length (m .records)) m ≡ false
 none-short s m fit =
     let long = fit .long in
     misses (short-tested s (length (m .records)) m)

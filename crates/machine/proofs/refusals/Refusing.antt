@@ -6,21 +6,22 @@ use native.Mathlib.Omega.{arith}
 use lib.{Dec.T, ListN.length}
 use Rattle.machine.specs.Memory.{Memory, stateOf, viewOf}
 use Rattle.machine.specs.Refusals.{Case, when, first, lentCases, rangeCases, taskCases, outsideLimits, rowShort}
-use Rattle.machine.specs.Refusals.{noSuchTask, oneTimeRelease, wrongMoment, moment, tooManyOut, setupVerdict}
+use Rattle.machine.specs.Refusals.{noSuchTask, oneTimeRelease, wrongMoment, moment, tooManyOut, rowBusy}
+use Rattle.machine.specs.Refusals.{setupVerdict}
 use Rattle.machine.specs.Answers.{said, isAccepted}
 use Rattle.machine.specs.Calls.{Outcome, answerOf, nextState, accept, refuseOr, verdictOf, cleared}
 use Rattle.machine.specs.promises.Ranges.{WithinLimits}
-use Rattle.machine.specs.promises.Refusing.{Line, FirstHolds, RefusedExactly, taskLines, lentLines, rangeLines}
-use Rattle.machine.specs.promises.Refusing.{setupLines, callLines, TellsFirstBad, in-records, in-xs, in-marks}
+use Rattle.machine.specs.promises.Refusing.{Line, line, FirstHolds, RefusedExactly, SomeBusy, taskLines}
+use Rattle.machine.specs.promises.Refusing.{lentLines, rangeLines, setupLines, callLines, TellsFirstBad, in-records, in-xs, in-marks}
 use Rattle.machine.specs.promises.Refusing.{callSays, setupSays, CallRefused, RefusalExact, RefusedChangesNothing}
 use Rattle.machine.specs.declared.{Settings.Settings, State.{State, the-variants.{Idle, Seeking, Holding}}}
 use Rattle.machine.specs.declared.{Kind.{Kind, the-variants.{Ask, Turn, Release}}, Event.Event}
 use Rattle.machine.specs.declared.{Row.the-variants.{Records, Xs, Marks}, View.View, Verdict.Verdict}
-use Rattle.machine.specs.declared.Refusal.the-variants.{NoSuchTask, OneTime, TooManyOut}
+use Rattle.machine.specs.declared.Refusal.the-variants.{BusyRow, NoSuchTask, OneTime, TooManyOut}
 use Rattle.machine.specs.declared.Answer.{Answer, the-variants.{Done, Seeks, Holds, Freed, Refused}}
 use Rattle.counting.proofs.Tested.{most, fails, passes, misses, cannot-fail}
 use Rattle.machine.proofs.refusals.Limits.{limits-tested}
-use Rattle.machine.proofs.refusals.Lines.{short-line, release-line, idle-line, seeking-line, holding-line, out-line}
+use Rattle.machine.proofs.refusals.Lines.{short-line, release-line, idle-line, seeking-line, holding-line, busy-line, out-line}
 use Rattle.machine.proofs.refusals.Lines.{momentCases, moment-as-three}
 use Rattle.machine.proofs.refusals.BadValue.{found-line, first-found}
 use Rattle.machine.proofs.refusals.Deciding.{refusal-says, decide-alike, not-first, Are, refused-exactly, refusal-keeps}
@@ -186,7 +187,9 @@ module _ (s : Settings) (event : Event) (m : Memory) where
 pub setup-exactly : (s : Settings) (m : Memory) → RefusedExactly (setupSays s m) (setupLines s m)
 setup-exactly s m =
     refused-exactly (λ v. said (refuseOr v m (started s m) .answer)) refl (λ why. refl)
-    (lentCases s (viewOf s (m .records) 0) m []) (setupLines s m) (lent-are s 0 m [] [] (λ l. tt))
+    (lentCases s (viewOf s (m .records) 0) m (when (rowBusy (viewOf s (m .records) 0)) BusyRow ∷ [])) (setupLines s m)
+    (lent-are s 0 m (when (rowBusy (viewOf s (m .records) 0)) BusyRow ∷ []) (line 18 (SomeBusy s m) ∷ [])
+    (λ l. (record { numbered = refl; tested = busy-line s m }, λ idle. tt)))
 
 pub refusal-exact : RefusalExact
 refusal-exact = record {

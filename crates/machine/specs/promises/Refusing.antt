@@ -71,6 +71,10 @@ OfHolding kind state = ((kind ≡ Ask) ⊎ (kind ≡ Turn)) × ((r : ℕ) × (c 
 abbrev pub tasksOut : Settings → Memory → ℕ
 tasksOut s m = count (λ p. seeksOrHolds (stateOf m p)) (s .n)
 
+-- 02, P4: "when any of the first N records is other than idle", a record out of range included
+abbrev pub SomeBusy : Settings → Memory → Type 0
+SomeBusy s m = (p : ℕ) × (p < s .n) × (stateOf m p ≡ Idle → ⊥)
+
 -- 1 and 2: what is lent
 abbrev pub lentLines : Settings → Memory → List Line → List Line
 lentLines s m rest =
@@ -97,9 +101,9 @@ taskLines s event m =
     ∷ line 7 ((event .kind ≡ Ask) × (s .k ≤ tasksOut s m))  -- ask when k or more tasks are out
     ∷ []
 
--- "Setup tests 1, 2; the other calls 1 to 7 ascending", with 15 to 17 for 6
+-- "Setup tests 1, 2; the other calls 1 to 7 ascending", with 15 to 17 for 6; 02: "18, after 2, in setup alone"
 abbrev pub setupLines : Settings → Memory → List Line
-setupLines s m = lentLines s m []
+setupLines s m = lentLines s m (line 18 (SomeBusy s m) ∷ [])  -- a record of the N is other than idle
 
 abbrev pub callLines : Settings → Event → Memory → List Line
 callLines s event m = lentLines s m (rangeLines s m (taskLines s event m))

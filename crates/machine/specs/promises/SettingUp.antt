@@ -1,4 +1,5 @@
--- 01, "Rules of the grid": "Setup makes the N records idle, all X 0 and all marks 0." It "answers that it is done".
+-- 01, "Rules of the grid": "Setup makes the N records idle, all X 0 and all marks 0." It "answers that it is done". 02,
+-- P4: "Setup must decline when any of the first N records is other than idle", so it writes no record.
 -- Theorem: `setup-clears`.
 use mathlib.Core.{Path._≡_, Logic._↔_}
 use lib.ListN.{replicate}
@@ -13,6 +14,7 @@ clear s = record { records = replicate (s .n) idle; xs = replicate (blocks s) 0;
 pub record SetupClears (s : Settings) (m : Memory) : Type 0 where
   pub done : (setup s m .answer ≡ Answer.Done) ↔ NoneHolds (setupLines s m)
   pub clears : NoneHolds (setupLines s m) → needed s (setup s m .memory) ≡ clear s
+  pub writes-no-record : setup s m .memory .records ≡ m .records
 
 abbrev pub EachSetupClears : Type 0
 EachSetupClears = (s : Settings) (m : Memory) → SetupClears s m

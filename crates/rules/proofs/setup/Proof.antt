@@ -1,8 +1,9 @@
 -- `setup` prepares as the definition says: a refusal leaves the rows, an accepted setup fills what is needed of each.
-use mathlib.Core.Path.{_≡_, _∙_, sym, ap}
+use mathlib.Core.{Path.{_≡_, _∙_, sym, ap}, List.{[], _∷_}}
 use native.Mathlib.Omega.{arith}
 use denote.Ref.{now}
-use Rattle.machine.{specs.{Memory.{Memory, fill}, declared.Verdict.Verdict, Refusals.setupVerdict}, proofs.Tests.tests}
+use Rattle.machine.{specs.{Memory.{Memory, fill}, Refusals.{when, rowBusy, setupVerdict}}, proofs.Tests.tests}
+use Rattle.machine.specs.declared.{Refusal.Refusal, Verdict.Verdict}
 use Rattle.rules.specs.Decision.{rows}
 use Rattle.rules.proofs.{Rows.{LentPassed, lent-passes}, setup.Statement.statement}
 use Rattle.rules.proofs.setup.Tie as tie
@@ -18,10 +19,12 @@ start c = c .before .before .before .before .before .before .before
 
 -- from here on the setup is accepted
 accepted : (c : tie.After-enum-told) → said (start c) ≡ Verdict.Accepted
-accepted c = sym (c .before .before .lent-verdict .ensures) ∙ c .enum-told .given .1
+accepted c = sym (c .before .before .setup-verdict .ensures) ∙ c .enum-told .given .1
 
 passed : (c : tie.After-enum-told) → LentPassed (start c .args .s) (start c .args .seen) (registers (start c))
-passed c = lent-passes (start c .args .s) (start c .args .seen) (registers (start c)) (accepted c)
+passed c =
+    lent-passes (start c .args .s) (start c .args .seen) (registers (start c))
+    (when (rowBusy (start c .args .seen)) Refusal.BusyRow ∷ []) (accepted c)
 
 blocks-requires : tie.Need-blocks-requires
 blocks-requires c κs = passed (c .before) .limits
@@ -41,12 +44,12 @@ returns : tie.Need-returns
 returns c =
     let a = c .before .before .before .before .before .before .before .before in
     let refused : said a ≡ Verdict.Refused _ =
-    sym (c .before .before .before .lent-verdict .ensures) ∙ c .before .why .given .1 in
+    sym (c .before .before .before .setup-verdict .ensures) ∙ c .before .why .given .1 in
     rw refused
 
 returns-2 : tie.Need-returns-2
 returns-2 c =
-    let marks-done = c .before .before .before in
+    let marks-done = c .before .before in
     let xs-done = marks-done .before .before .before .before .before in
     let told = xs-done .before .before .before in
     let a = start told .args in
@@ -67,7 +70,6 @@ setup-spec =
     clear-xs-requires
     marks-needed-requires
     clear-marks-requires
-    (λ c. search tests)
     (λ c. search tests)
     (λ c. search tests)
     returns

@@ -1,7 +1,7 @@
 -- `verdict` is the definition's, by its three parts: what is lent, what it holds, the task.
 use mathlib.Core.{Path.{_≡_, _∙_, sym}, List.[]}
 use denote.Ref.{now}
-use Rattle.machine.specs.{Memory.Memory, Refusals.{first, rangeCases, taskCases, verdict, setupVerdict}}
+use Rattle.machine.specs.{Memory.Memory, Refusals.{first, lentCases, rangeCases, taskCases, verdict}}
 use Rattle.machine.specs.declared.Verdict.{Verdict}
 use Rattle.machine.proofs.Tests.{tests}
 use Rattle.rules.specs.Decision.{rows}
@@ -12,7 +12,7 @@ abbrev registers : tie.Start → Memory
 registers c = rows (now (c .args .xs)) (now (c .args .marks))
 
 abbrev lent : tie.Start → Verdict
-lent c = setupVerdict (c .args .s) (c .args .seen) (registers c)
+lent c = first (lentCases (c .args .s) (c .args .seen) (registers c) [])
 
 abbrev range : tie.Start → Verdict
 range c = first (rangeCases (c .args .s) (c .args .seen) (registers c) [])
@@ -30,7 +30,7 @@ parts c = verdict-parts (c .args .s) (c .args .kind) (c .args .task .0) (c .args
 
 range-verdict-requires : tie.Need-range-verdict-requires
 range-verdict-requires c κs =
-    let pass = lent-passes (start c .args .s) (start c .args .seen) (registers (start c)) (lent-accepted c) in
+    let pass = lent-passes (start c .args .s) (start c .args .seen) (registers (start c)) [] (lent-accepted c) in
     (pass .limits, pass .none-is-short)
 
 returns : tie.Need-returns

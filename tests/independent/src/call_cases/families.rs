@@ -35,8 +35,7 @@ impl Maker {
         self.cases.push(CallCase::new(&Grid, tries, settings, before.clone(), call));
     }
 
-    /// The families that settings in the limits have; some stand in `holders`, `moments`, `surplus` and
-    /// `faults`.
+    /// The families that settings in the limits have; some stand in the files beside this one.
     pub fn every_family(&mut self, settings: Settings) {
         self.points(settings);
         self.own_x(settings);
@@ -55,6 +54,7 @@ impl Maker {
         self.bad_rows(settings);
         self.later_blocks(settings);
         self.identifiers(settings);
+        self.setups(settings);
     }
 
     /// Every point in some blocks: with registers as they come, and with the one that is touched

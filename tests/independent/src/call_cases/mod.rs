@@ -30,6 +30,7 @@ mod faults;
 mod holders;
 mod memories;
 mod moments;
+mod setups;
 pub mod store;
 mod surplus;
 

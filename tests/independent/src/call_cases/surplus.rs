@@ -18,9 +18,11 @@ impl Maker {
                 }
             }
             let p = self.random.task(settings);
-            for call in calls_of(p).into_iter().chain(calls_of(settings.n)).chain([Call::Setup]) {
+            for call in calls_of(p).into_iter().chain(calls_of(settings.n)) {
                 self.push("surplus", settings, &memory, call);
             }
+            memory.records[..settings.tasks()].fill(Record::Idle);
+            self.push("surplus", settings, &memory, Call::Setup);
         }
     }
 
@@ -75,6 +77,9 @@ impl Maker {
         for call in [Call::Turn(255), Call::Setup] {
             let mut memory = self.random.memory(settings);
             memory.records[255] = Record::Seeking(Place { r: 14, c: 0 }, Point::Scan(255));
+            if call == Call::Setup {
+                memory.records.fill(Record::Idle);
+            }
             for _ in 0..17 {
                 self.lengthen(settings, &mut memory, Row::Marks);
             }

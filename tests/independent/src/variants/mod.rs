@@ -4,6 +4,7 @@
 pub mod moment;
 pub mod names;
 pub mod peak;
+pub mod setup;
 pub mod shortcuts;
 
 use crate::rules::{Grid, Rules};
@@ -42,7 +43,8 @@ impl Variant {
 }
 
 fn all() -> impl Iterator<Item = Variant> {
-    shortcuts::ALL.into_iter().chain(moment::ALL).chain(peak::ALL).chain(names::ALL)
+    let of_01 = shortcuts::ALL.into_iter();
+    of_01.chain(moment::ALL).chain(peak::ALL).chain(names::ALL).chain(setup::ALL)
 }
 
 /// The variants that schedules must tell from the grid.
