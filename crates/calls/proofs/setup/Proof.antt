@@ -2,7 +2,7 @@
 use Rattle.walks.proofs.Prelude.{refl, List, [], _∷_, lit<, length, URA, fullShare, Model, Heap, Lfts, Shares}
 use Rattle.walks.proofs.Prelude.{GhostRules, Running, givenOf, Given, named, RefT, Room, owed, owes, emp, id⊢, factI}
 use Rattle.walks.proofs.Prelude.{_$_, !, by, move, agg, of-opd, lit, and-then, no-more, Args, Lasts, AllReal, Real}
-use Rattle.walks.proofs.Prelude.{typed, Body, hears, calls, exits, meets, leaves, copies, copies-all, copies-field}
+use Rattle.walks.proofs.Prelude.{typed, Body, hears, calls, exits, meets, leaves, copies, copies-all, copies-part}
 use Rattle.walks.proofs.Prelude.{points-to, refers, sets, lands-in, gives, under, lends-shared, shared-back}
 use Rattle.machine.specs.Memory.{Memory, viewOf}
 use Rattle.machine.specs.declared.{Record.Record, Settings.Settings, TaskId.TaskId, View.View}
@@ -105,9 +105,9 @@ module _ {M : Type 1} (𝓤 : URA M) (H : Heap 𝓤) (𝓜 : Model 𝓤 H) (𝓖
       (λ r us. hears 𝓤 (λ e. (refl, λ k. (e k, (tt, tt))))) (id⊢ 𝓤 _)
       (tt, (owed P.the-type P′.the-laws prepared _ prepared-is .1 .0, tt))
       (fill-met.met 𝓤 H 𝓜 𝓖 𝓡) code.env fill.name code.calls-rows·fill ! refl
-      (and-then ! (copies ! refl) (and-then ! (copies-field ! refl refl refl) (no-more !))) (λ _ _.
+      (and-then ! (copies ! refl) (and-then ! (copies-part ! P.the-type refl refl refl) (no-more !))) (λ _ _.
       lands-in ! refl (tt, tt) $
-      sets ! (of-opd ! (copies-field ! refl refl refl)) refl
+      sets ! (of-opd ! (copies-part ! P.the-type refl refl refl)) refl
       (typed answer-data W (prepared .answer) (answer-is prepared-is) .0) $
       gives ! refl $
       leaves ! refl $
