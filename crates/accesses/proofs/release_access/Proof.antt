@@ -3,8 +3,8 @@ use mathlib.Core.Path.{_∙_}
 use Prim.Native.Nat.{_+_, _≤_}
 use native.Mathlib.Omega.{arith}
 use Rattle.machine.proofs.{bridge.Arriving.{release-clears, release-nothing}, Tests.tests}
-use Rattle.records.proofs.{States.holds-near, release_access.Statement.statement}
-use Rattle.records.proofs.release_access.Tie as tie
+use Rattle.accesses.proofs.{Holding.holds-near, release_access.Statement.statement}
+use Rattle.accesses.proofs.release_access.Tie as tie
 
 -- the row and the column are those of a place, so their sum fits
 near : (c : tie.After-state) → c .state .given .0 .0 + c .state .given .0 .1 .0 + 1 ≤ 16

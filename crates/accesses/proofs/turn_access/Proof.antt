@@ -1,8 +1,8 @@
 -- The access of a turn is the definition's: that of the point, on a block since the record is in range.
 use native.Mathlib.Omega.{arith}
 use Rattle.machine.proofs.{refusals.Ranges.seeks-on-block, Tests.tests}
-use Rattle.records.proofs.turn_access.Statement.{statement}
-use Rattle.records.proofs.turn_access.Tie as tie
+use Rattle.accesses.proofs.turn_access.Statement.{statement}
+use Rattle.accesses.proofs.turn_access.Tie as tie
 
 point-access-requires : tie.Need-point-access-requires
 point-access-requires c κs =

@@ -2,8 +2,8 @@
 use mathlib.Core.Path.{_∙_, refl}
 use native.Mathlib.Omega.{arith}
 use Rattle.machine.proofs.Tests.{tests}
-use Rattle.records.proofs.{States.{seeks-off-blocks, seeks-by-point}, in_range.Statement.statement}
-use Rattle.records.proofs.in_range.Tie as tie
+use Rattle.ranges.proofs.{States.{seeks-off-blocks, seeks-by-point}, in_range.Statement.statement}
+use Rattle.ranges.proofs.in_range.Tie as tie
 
 returns : tie.Need-returns
 returns c =

@@ -1,8 +1,8 @@
 -- The access at a point is the definition's `pointAccess`, by the number of the block and the own mark.
 use mathlib.Core.Path.{refl}
 use Rattle.machine.proofs.Tests.{tests}
-use Rattle.records.proofs.point_access.Statement.{statement}
-use Rattle.records.proofs.point_access.Tie as tie
+use Rattle.accesses.proofs.point_access.Statement.{statement}
+use Rattle.accesses.proofs.point_access.Tie as tie
 
 returns : tie.Need-returns
 returns c = rw (c .before .enum-told .given .1, c .before .before .before .block-number .ensures) refl
