@@ -8,8 +8,8 @@ use Rattle.file.specs.File.{codeIn, numberBad, eventsBytes}
 use Rattle.counting.proofs.Some.{none-below}
 use Rattle.machine.proofs.Tests.{tests}
 use Rattle.text.{specs.Put.put, proofs.Putting.put-nothing}
-use Rattle.schedule.proofs.{Bytes.{length-behind, put-more}, put_events.Statement.statement}
-use Rattle.schedule.proofs.put_events.Tie as tie
+use Rattle.writer.proofs.{Bytes.{length-behind, put-more}, put_events.Statement.statement}
+use Rattle.writer.proofs.put_events.Tie as tie
 
 abbrev Inv-loop : tie.InvT-loop
 Inv-loop room₀ events i₀ room i = (i ≤ length events) × (room ≡ put room₀ 11 (eventsBytes (take i events)))

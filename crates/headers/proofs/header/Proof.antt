@@ -4,8 +4,8 @@ use lib.Dec.{eqb}
 use borrow.Author.Tests.{eq-eqb}
 use Rattle.machine.{specs.{Settings.permitted, Refusals.outsideLimits}, proofs.Tests.tests}
 use Rattle.file.specs.File.{lettersRight, versionOf, settingsOf}
-use Rattle.schedule.proofs.header.Statement.{statement}
-use Rattle.schedule.proofs.header.Tie as tie
+use Rattle.headers.proofs.header.Statement.{statement}
+use Rattle.headers.proofs.header.Tie as tie
 
 lettered : (c : tie.Else2) → not (lettersRight (c .before .before .before .before .args .file .now)) ≡ false
 lettered c = ap not (sym (c .before .letters .ensures)) ∙ c .if2 .left

@@ -3,8 +3,8 @@ use Prim.Native.Nat.{ℕ, _+_, _<_}
 use native.Mathlib.Omega.{arith}
 use lib.ListN.{getD}
 use Rattle.machine.proofs.Tests.{tests}
-use Rattle.schedule.proofs.word.Statement.{statement}
-use Rattle.schedule.proofs.word.Tie as tie
+use Rattle.headers.proofs.word.Statement.{statement}
+use Rattle.headers.proofs.word.Tie as tie
 
 abbrev byte : tie.After-shared-slice-known2 → ℕ → ℕ
 byte c i = getD (c .before .before .args .file .now) i 0

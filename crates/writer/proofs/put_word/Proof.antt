@@ -3,8 +3,8 @@ use native.Mathlib.{Omega.arith, Numerals.add-one}
 use lib.ListN.{length-set}
 use Rattle.file.specs.File.{wordBytes}
 use Rattle.machine.proofs.Tests.{tests}
-use Rattle.schedule.proofs.{Bytes.stores-put, put_word.Statement.statement}
-use Rattle.schedule.proofs.put_word.Tie as tie
+use Rattle.writer.proofs.{Bytes.stores-put, put_word.Statement.statement}
+use Rattle.writer.proofs.put_word.Tie as tie
 
 slice-write-room-2 : tie.Need-slice-write-room-2
 slice-write-room-2 c = simp length-set (omega arith)

@@ -7,8 +7,8 @@ use borrow.Author.Tests.{lt-ltb, le-ltb}
 use Rattle.counting.{specs.Counting.anyBelow, proofs.Some.{any-found, none-more}}
 use Rattle.file.specs.File.{numberBad}
 use Rattle.machine.proofs.Tests.{tests}
-use Rattle.schedule.proofs.bad_number.Statement.{statement}
-use Rattle.schedule.proofs.bad_number.Tie as tie
+use Rattle.writer.proofs.bad_number.Statement.{statement}
+use Rattle.writer.proofs.bad_number.Tie as tie
 
 abbrev Inv-loop : tie.InvT-loop
 Inv-loop events i₀ i = (i ≤ length events) × (anyBelow (numberBad events) i ≡ false)

@@ -1,7 +1,7 @@
 -- The settings are those of the header's bytes, by what `word` ensures.
 use Rattle.machine.proofs.Tests.{tests}
-use Rattle.schedule.proofs.settings.Statement.{statement}
-use Rattle.schedule.proofs.settings.Tie as tie
+use Rattle.headers.proofs.settings.Statement.{statement}
+use Rattle.headers.proofs.settings.Tie as tie
 
 returns : tie.Need-returns
 returns c = rw (c .before .word .ensures)

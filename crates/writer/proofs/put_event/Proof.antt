@@ -3,8 +3,8 @@ use mathlib.Core.Path.{_∙_}
 use native.Mathlib.Omega.{arith}
 use lib.ListN.{length-set}
 use Rattle.machine.proofs.Tests.{tests}
-use Rattle.schedule.proofs.{Bytes.put-behind, put_event.Statement.statement}
-use Rattle.schedule.proofs.put_event.Tie as tie
+use Rattle.writer.proofs.{Bytes.put-behind, put_event.Statement.statement}
+use Rattle.writer.proofs.put_event.Tie as tie
 
 put-word-requires : tie.Need-put-word-requires
 put-word-requires c κs = simp length-set (omega arith)

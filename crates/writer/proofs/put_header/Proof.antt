@@ -3,8 +3,8 @@ use mathlib.Core.Path.{_≡_, _∙_}
 use native.Mathlib.Omega.{arith}
 use lib.ListN.{length, length-set}
 use Rattle.machine.proofs.Tests.{tests}
-use Rattle.schedule.proofs.{Bytes.header-put, put_header.Statement.statement}
-use Rattle.schedule.proofs.put_header.Tie as tie
+use Rattle.writer.proofs.{Bytes.header-put, put_header.Statement.statement}
+use Rattle.writer.proofs.put_header.Tie as tie
 
 -- the room is as long as it was, after one word and after two
 abbrev start : tie.After-put-word → tie.Start
