@@ -1,2 +1,1 @@
--- Laws of states, for this crate and those above it.
-pub mod States
+mod States

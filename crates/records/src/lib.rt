@@ -1,57 +1,22 @@
-// One task's record, by value: whether it is in range, where the task stands, which register its
-// next call touches, the record after the call, and what the call answers. Nothing above this crate
-// matches on points.
+// One task's record, by value: where the task stands, which register its next call touches, the
+// record after the call, and what the call answers.
 
+use accesses::release_access;
+use accesses::turn_access;
 use machine::Access;
 use machine::Answer;
 use machine::Kind;
-use machine::Point;
 use machine::Record;
 use machine::Settings;
 use machine::State;
 use machine::TaskId;
-use places::block_number;
 use places::name_at;
-use places::own;
 ghost use mathlib.Core.Path.{_≡_};
-ghost use Prim.Native.Nat.{_+_, _≤_};
 ghost use lib.Dec.{T};
-ghost use Rattle.machine.specs.Settings.{permitted, own};
-ghost use Rattle.machine.specs.Places.{blockNumber};
-ghost use Rattle.machine.specs.Records.{pointInRange, recordInRange, isIdle, isSeeking, isHolding, isOut};
-ghost use Rattle.machine.specs.Turn.{pointAccess, turnAccess, releaseAccess, access, next};
+ghost use Rattle.machine.specs.Settings.{permitted};
+ghost use Rattle.machine.specs.Records.{recordInRange, isIdle, isSeeking, isHolding};
+ghost use Rattle.machine.specs.Turn.{access, next};
 ghost use Rattle.machine.specs.Calls.{standing, freed, answerOf};
-
-// Whether a seeking task may stand at the point: a scan at one of the block's marks, a clear
-// long-lived only.
-fn point_in_range(s: Settings, point: Point) -> bool
-    ensures { λ ok. ⌜ ok ≡ pointInRange s point ⌝ }
-{
-    match point {
-        Point::WriteX => true,
-        Point::Scan(h) => h < s.width(),
-        Point::WriteMark => true,
-        Point::ReadX => true,
-        Point::Clear(_) => s.mode == 1,
-    }
-}
-
-// Whether the record is in range: on a block if it seeks, on a place if it holds.
-pub fn in_range(s: Settings, this: Record) -> bool
-    ensures { λ ok. ⌜ ok ≡ recordInRange s this ⌝ }
-{
-    let state = this.state;
-    match state {
-        State::Idle => true,
-        State::Seeking { r, c, point } => {
-            if r as usize + c as usize + 2 > s.k as usize {
-                return false;
-            }
-            point_in_range(s, point)
-        }
-        State::Holding { r, c } => r as usize + c as usize + 1 <= s.k as usize,
-    }
-}
 
 // Whether the task is idle.
 pub fn is_idle(this: Record) -> bool
@@ -82,83 +47,6 @@ pub fn is_holding(this: Record) -> bool
         true
     } else {
         false
-    }
-}
-
-// Whether the task is out: it seeks or holds.
-pub fn is_out(this: Record) -> bool
-    ensures { λ yes. ⌜ yes ≡ isOut (this .state) ⌝ }
-{
-    let state = this.state;
-    match state {
-        State::Idle => false,
-        State::Seeking { .. } => true,
-        State::Holding { .. } => true,
-    }
-}
-
-// The task's own mark in the block at (r, c) becomes `value`.
-fn own_mark(s: Settings, task: TaskId, r: u8, c: u8, value: u8) -> Access
-    requires { ⌜ T (permitted s) × (r + c + 2 ≤ s .k) ⌝ }
-    ensures { λ access. ⌜ access ≡ Access.MarkWritten (blockNumber s r c) (own s (task .0)) value ⌝ }
-{
-    Access::MarkWritten {
-        block: block_number(s, r, c),
-        place: own(s, task),
-        value: value,
-    }
-}
-
-// The register that the turn at a point of the block at (r, c) touches.
-fn point_access(s: Settings, task: TaskId, r: u8, c: u8, point: Point) -> Access
-    requires { ⌜ T (permitted s) × (r + c + 2 ≤ s .k) ⌝ }
-    ensures { λ access. ⌜ access ≡ pointAccess s (task .0) r c point ⌝ }
-{
-    let block = block_number(s, r, c);
-    match point {
-        Point::WriteX => Access::XWritten {
-            block: block,
-            value: task.0 as u32 + 1,
-        },
-        Point::Scan(h) => Access::MarkRead {
-            block: block,
-            place: h as usize,
-        },
-        Point::WriteMark => own_mark(s, task, r, c, 1),
-        Point::ReadX => Access::XRead { block: block },
-        Point::Clear(_) => own_mark(s, task, r, c, 0),
-    }
-}
-
-// The register that a turn touches: none where the task does not seek.
-fn turn_access(s: Settings, task: TaskId, this: Record) -> Access
-    requires { ⌜ T (permitted s) × T (recordInRange s this) ⌝ }
-    ensures { λ access. ⌜ access ≡ turnAccess s (task .0) (this .state) ⌝ }
-{
-    let state = this.state;
-    match state {
-        State::Idle => Access::NoAccess,
-        State::Seeking { r, c, point } => point_access(s, task, r, c, point),
-        State::Holding { .. } => Access::NoAccess,
-    }
-}
-
-// The register that a release touches: the own mark of a block, and none on the edge or where the
-// task does not hold.
-fn release_access(s: Settings, task: TaskId, this: Record) -> Access
-    requires { ⌜ T (permitted s) × T (recordInRange s this) ⌝ }
-    ensures { λ access. ⌜ access ≡ releaseAccess s (task .0) (this .state) ⌝ }
-{
-    let state = this.state;
-    match state {
-        State::Idle => Access::NoAccess,
-        State::Seeking { .. } => Access::NoAccess,
-        State::Holding { r, c } => {
-            if r + c + 2 <= s.k {
-                return own_mark(s, task, r, c, 0);
-            }
-            Access::NoAccess
-        }
     }
 }
 

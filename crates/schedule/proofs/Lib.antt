@@ -1,5 +1,4 @@
 -- Laws of the schedule file that belong to no one function.
-pub mod Bytes
 pub mod Result
 pub mod LentWithin
 pub mod Readers

@@ -36,8 +36,9 @@ pub use Rattle.walks.proofs.Elements.{place-fits, reads-element, writes
 pub use Rattle.walks.proofs.Fronts.{lends-front, front-back}
 pub use Rattle.walks.proofs.Lending.{under, lends-again, comes-back, lends-shared, shared-back}
 pub use Rattle.walks.proofs.Locals.{placed, standing, leaves}
-pub use Rattle.walks.proofs.Statements.{copies, copies-all, copies-field, points-to, refers, joins, means}
+pub use Rattle.walks.proofs.Statements.{copies, copies-all, copies-field, copies-part, points-to, refers, joins}
 pub use Rattle.walks.proofs.Statements.{
+  means,
   vacates,
   sets,
   resets-last,

@@ -16,6 +16,7 @@ use types.Kit.{Given, Item, ‵, nth, put, Post, post, atRet, prop, runs, lands,
 use types.Part.{Part, whole, sub, look-in, agg}
 use types.Run.{Reads, Opd, Opds, and-then, no-more, Rv, look, init, store, forget, stop, hop, fld, from, load, addr}
 use types.Run.{assigns, assigns-last, land, returns, first, branches, skips, jumps}
+use denote.{RattleType.mirs, Struct.{Struct.toTys, Declared.{Declared, fields}}}
 use Rattle.walks.proofs.Locals.{front}
 
 module _ {M : Type 1} (𝓤 : URA M) (H : Heap 𝓤) (A : Atoms 𝓤) (Γ : List (Item 𝓤)) (E : Env 𝓤 H) where
@@ -123,6 +124,13 @@ module _ {M : Type 1} {𝓤 : URA M} {H : Heap 𝓤} {A : Atoms 𝓤} {K : Type 
       → fieldAt zero τs f ≡ some (τ, d) → fieldOf (type-of 𝓤 H A Γ E k) f ≡ some (τ, d)
       → Opd K W Γ E (copy (place k (field f ∷ []))) (getV vs f)
   copies-field t {k} {f} e within found = load t (from t (fld t found (stop t))) (reads-field t E k f e within)
+
+  -- the same of a declared struct, whose types are those of its declaration: they are not worked out from the code's
+  -- table of types, which is long
+  pub copies-part : K → (S : Declared) {k f : ℕ} {vs : Vals} {τ : Ty} {d : ℕ}
+      → Struct 𝓤 H A Γ E k (S .name) (toTys (mirs (fields S))) vs → fieldAt zero (toTys (mirs (fields S))) f ≡ some (τ, d)
+      → fieldOf (type-of 𝓤 H A Γ E k) f ≡ some (τ, d) → Opd K W Γ E (copy (place k (field f ∷ []))) (getV vs f)
+  copies-part t S = copies-field t
 
   -- where a pointer in a struct's field points
   pub points-to : K → {k f : ℕ} {ν : Sym} {τs : Tys} {vs : Vals} {τ σ : Ty} {d b o : ℕ} → Struct 𝓤 H A Γ E k ν τs vs

@@ -2,7 +2,7 @@
 use Rattle.walks.proofs.Prelude.{refl, List, [], _∷_, _<_, _^_, arith, length, URA, fullShare, Model, Heap, Lfts}
 use Rattle.walks.proofs.Prelude.{Shares, GhostRules, Running, givenOf, Given, named, RefT, Room, owed, emp, id⊢, factI}
 use Rattle.walks.proofs.Prelude.{_$_, !, by, move, of-opd, un, and-then, no-more, Args, Lasts, AllReal, Real, typed}
-use Rattle.walks.proofs.Prelude.{Body, hears, calls, exits, meets, leaves, copies, copies-all, copies-field, points-to}
+use Rattle.walks.proofs.Prelude.{Body, hears, calls, exits, meets, leaves, copies, copies-all, copies-part, points-to}
 use Rattle.walks.proofs.Prelude.{refers, sets, lands-in, gives, under, lends-shared, shared-back}
 use lib.ListN.{set, length-set}
 use Rattle.machine.specs.Memory.{Memory, viewOf}
@@ -89,7 +89,7 @@ module _ {M : Type 1} (𝓤 : URA M) (H : Heap 𝓤) (𝓜 : Model 𝓤 H) (𝓖
 
   walk : Body step-fn 𝓤 H 𝓜 𝓖 𝓡 κs qs tt a tt code.env code.function
   walk l₀ l₁ l₂ l₃ l₄ l₅ l₆ l₇ l₈ l₉ l₁₀ l₁₁ l₁₂ l₁₃ l₁₄ l₁₅ l₁₆ l₁₇ l₁₈ =
-      sets ! (of-opd ! (copies-field ! refl refl refl)) refl (typed task-data W task task-is .0) $
+      sets ! (of-opd ! (copies-part ! E.the-type refl refl refl)) refl (typed task-data W task task-is .0) $
       sets ! (points-to ! refl refl refl refl) refl (tt, tt) $
       sets ! (refers ! refl refl refl refl) refl (tt, (tt, (record { fits = room .0 }, tt))) $
       move ! (0 ∷ 3 ∷ []) $
@@ -113,7 +113,7 @@ module _ {M : Type 1} (𝓤 : URA M) (H : Heap 𝓤) (𝓜 : Model 𝓤 H) (𝓖
       lands-in ! refl (typed decided-data W decided decided-is .0) $
       sets ! (points-to ! refl refl refl refl) refl (tt, tt) $
       sets ! (refers ! refl refl refl refl) refl (tt, (tt, (record { fits = room .0 }, tt))) $
-      sets ! (un ! (copies-field ! refl refl refl) (record { fits = task-fits })) refl
+      sets ! (un ! (copies-part ! I.the-type refl refl refl) (record { fits = task-fits })) refl
       (tt, record { fits = task-fits }) $
       move ! (4 ∷ 5 ∷ []) $
       calls put-fn 𝓤 H 𝓜 𝓖 𝓡 (κs .0, tt) (qs .0, tt) tt (records, (task .0, (decided .own, tt))) tt tt
@@ -122,9 +122,9 @@ module _ {M : Type 1} (𝓤 : URA M) (H : Heap 𝓤) (𝓜 : Model 𝓤 H) (𝓖
       (tt, ((refl, task-fits), (record-is decided-is, tt)))
       (put-met.met 𝓤 H 𝓜 𝓖 𝓡) code.env put.name code.calls-rows·put ! refl
       (and-then ! (copies ! refl) (and-then ! (copies ! refl)
-      (and-then ! (copies-field ! refl refl refl) (no-more !)))) (λ _ _.
+      (and-then ! (copies-part ! D.the-type refl refl refl) (no-more !)))) (λ _ _.
       lands-in ! refl (tt, tt) $
-      sets ! (of-opd ! (copies-field ! refl refl refl)) refl
+      sets ! (of-opd ! (copies-part ! D.the-type refl refl refl)) refl
       (typed answer-data W (decided .answer) (answer-is decided-is) .0) $
       gives ! refl $
       leaves ! refl $

@@ -3,7 +3,8 @@
 use mathlib.Core.Path.{ap}
 use native.Mathlib.Omega.{arith}
 use Rattle.machine.{specs.declared.Answer.the-variants.Freed, proofs.Tests.tests}
-use Rattle.records.proofs.{States.holds-on-place, freed.Statement.statement}
+use Rattle.accesses.proofs.Holding.{holds-on-place}
+use Rattle.records.proofs.freed.Statement.{statement}
 use Rattle.records.proofs.freed.Tie as tie
 
 name-at-requires : tie.Need-name-at-requires

@@ -2,7 +2,8 @@
 use mathlib.Core.Path.{ap}
 use native.Mathlib.Omega.{arith}
 use Rattle.machine.{specs.declared.Answer.the-variants.Holds, proofs.Tests.tests}
-use Rattle.records.proofs.{States.holds-on-place, standing.Statement.statement}
+use Rattle.accesses.proofs.Holding.{holds-on-place}
+use Rattle.records.proofs.standing.Statement.{statement}
 use Rattle.records.proofs.standing.Tie as tie
 
 name-at-requires : tie.Need-name-at-requires

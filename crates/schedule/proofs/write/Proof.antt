@@ -6,7 +6,8 @@ use borrow.Author.Tests.{le-ltb}
 use Rattle.machine.{specs.Refusals.outsideLimits, proofs.Tests.tests}
 use Rattle.counting.specs.Counting.{anyBelow}
 use Rattle.file.specs.File.{numberBad, writtenOf}
-use Rattle.schedule.proofs.{Bytes.put-file, write.Statement.statement}
+use Rattle.writer.proofs.Bytes.{put-file}
+use Rattle.schedule.proofs.write.Statement.{statement}
 use Rattle.schedule.proofs.write.Tie as tie
 
 within : (c : tie.Else1) → outsideLimits (c .before .before .before .before .args .s) ≡ false

@@ -1,0 +1,83 @@
+// The one register that a call of one task's record touches. Nothing above this crate matches on
+// points.
+
+use machine::Access;
+use machine::Point;
+use machine::Record;
+use machine::Settings;
+use machine::State;
+use machine::TaskId;
+use places::block_number;
+use places::own;
+ghost use mathlib.Core.Path.{_≡_};
+ghost use Prim.Native.Nat.{_+_, _≤_};
+ghost use lib.Dec.{T};
+ghost use Rattle.machine.specs.Settings.{permitted, own};
+ghost use Rattle.machine.specs.Places.{blockNumber};
+ghost use Rattle.machine.specs.Records.{recordInRange};
+ghost use Rattle.machine.specs.Turn.{pointAccess, turnAccess, releaseAccess};
+
+// The task's own mark in the block at (r, c) becomes `value`.
+fn own_mark(s: Settings, task: TaskId, r: u8, c: u8, value: u8) -> Access
+    requires { ⌜ T (permitted s) × (r + c + 2 ≤ s .k) ⌝ }
+    ensures { λ access. ⌜ access ≡ Access.MarkWritten (blockNumber s r c) (own s (task .0)) value ⌝ }
+{
+    Access::MarkWritten {
+        block: block_number(s, r, c),
+        place: own(s, task),
+        value: value,
+    }
+}
+
+// The register that the turn at a point of the block at (r, c) touches.
+fn point_access(s: Settings, task: TaskId, r: u8, c: u8, point: Point) -> Access
+    requires { ⌜ T (permitted s) × (r + c + 2 ≤ s .k) ⌝ }
+    ensures { λ access. ⌜ access ≡ pointAccess s (task .0) r c point ⌝ }
+{
+    let block = block_number(s, r, c);
+    match point {
+        Point::WriteX => Access::XWritten {
+            block: block,
+            value: task.0 as u32 + 1,
+        },
+        Point::Scan(h) => Access::MarkRead {
+            block: block,
+            place: h as usize,
+        },
+        Point::WriteMark => own_mark(s, task, r, c, 1),
+        Point::ReadX => Access::XRead { block: block },
+        Point::Clear(_) => own_mark(s, task, r, c, 0),
+    }
+}
+
+// The register that a turn touches: none where the task does not seek.
+pub fn turn_access(s: Settings, task: TaskId, this: Record) -> Access
+    requires { ⌜ T (permitted s) × T (recordInRange s this) ⌝ }
+    ensures { λ access. ⌜ access ≡ turnAccess s (task .0) (this .state) ⌝ }
+{
+    let state = this.state;
+    match state {
+        State::Idle => Access::NoAccess,
+        State::Seeking { r, c, point } => point_access(s, task, r, c, point),
+        State::Holding { .. } => Access::NoAccess,
+    }
+}
+
+// The register that a release touches: the own mark of a block, and none on the edge or where the
+// task does not hold.
+pub fn release_access(s: Settings, task: TaskId, this: Record) -> Access
+    requires { ⌜ T (permitted s) × T (recordInRange s this) ⌝ }
+    ensures { λ access. ⌜ access ≡ releaseAccess s (task .0) (this .state) ⌝ }
+{
+    let state = this.state;
+    match state {
+        State::Idle => Access::NoAccess,
+        State::Seeking { .. } => Access::NoAccess,
+        State::Holding { r, c } => {
+            if r + c + 2 <= s.k {
+                return own_mark(s, task, r, c, 0);
+            }
+            Access::NoAccess
+        }
+    }
+}
