@@ -69,7 +69,7 @@ fn counts(who: Who, own: Record) -> bool
 {
     match who {
         Who::Holders => records::is_holding(own),
-        Who::Out => records::is_out(own),
+        Who::Out => ranges::is_out(own),
     }
 }
 
