@@ -4,10 +4,12 @@ use Prim.Native.Nat.{ℕ}
 use lib.{Dec.{eqb, leb, ltb}, ListN.length}
 use Rattle.machine.specs.{Settings.permitted, Places.blocks, Records.{isIdle, isSeeking, isHolding}}
 use Rattle.machine.specs.Memory.{Memory, marksNeeded, badX, badMark}
-use Rattle.machine.specs.declared.{Settings.Settings, State.{State, the-variants.{Idle, Seeking, Holding}}, Kind.{Kind, the-variants.{Ask, Turn, Release}}}
+use Rattle.machine.specs.declared.{Settings.Settings, State.{State, the-variants.{Idle, Seeking, Holding}}}
+use Rattle.machine.specs.declared.Kind.{Kind, the-variants.{Ask, Turn, Release}}
 use Rattle.machine.specs.declared.Row.the-variants.{Records, Xs, Marks}
 use Rattle.machine.specs.declared.Refusal.{Refusal}
-use Rattle.machine.specs.declared.Refusal.the-variants.{Limits, ShortRow, BusyRow, OutOfRange, NoSuchTask, OneTime}
+use Rattle.machine.specs.declared.Refusal.the-variants.{Limits, ShortRow, BusyRow, OutOfRange, NoSuchTask}
+use Rattle.machine.specs.declared.Refusal.the-variants.{OneTime}
 use Rattle.machine.specs.declared.Refusal.the-variants.{TaskIdle, TaskSeeks, TaskHolds, TooManyOut}
 use Rattle.machine.specs.declared.{View.View, Verdict.{Verdict, the-variants.{Accepted, Refused}}}
 

@@ -18,7 +18,8 @@ use Rattle.machine.proofs.histories.Exact.{setup-takes-largest}
 use Rattle.machine.proofs.calls.Fresh.{setup-within, fresh-idle, fresh-none-out, fresh-fit}
 use Rattle.text.specs.Decimal.{decimal}
 use Rattle.printed.specs.Edges.{FiveNames, FiveByDiagonal, NoTurns, LoneTask, TheOtherTask, TheListing}
-use Rattle.printed.specs.Edges.{TwoAsks, TwoOut, LastIdentifier, NoRelease, NoReleaseIdle, settings, named, Refuses}
+use Rattle.printed.specs.Edges.{TwoAsks, TwoOut, LastIdentifier, NoRelease, NoReleaseIdle, settings, named}
+use Rattle.printed.specs.Edges.{Refuses}
 use Rattle.printed.specs.Edges.{SetupsTaken, Outside, OutsideRefused, Edges}
 use Rattle.printed.proofs.OneTimePair.{one-time-pair}
 

@@ -20,7 +20,8 @@ use Rattle.machine.proofs.refusals.{Lines.tasks-out, Passing.{passed, by-the-ru
 use Rattle.machine.proofs.calls.{SettingUp.setup-clears, Effects.only-the-register-written-changes}
 use Rattle.machine.proofs.bridge.Histories.{run-keeps, run-append, history-append, call-few}
 use Rattle.machine.proofs.histories.{Served.turns-append, Demand3.{served-within, setup-takes}}
-use Rattle.counting.{specs.Counting.{tick, count, anyBelow}, proofs.{Lists.one-value, Searching.{count-same, count-none}}}
+use Rattle.counting.specs.Counting.{tick, count, anyBelow}
+use Rattle.counting.proofs.{Lists.one-value, Searching.{count-same, count-none}}
 use Rattle.file.specs.File.{codeAt, taskAt, eventAt}
 use Rattle.printed.specs.Listing.{Progress, turnsAfter, completed, progress, listingBy, holdersOf}
 use Rattle.printed.specs.EndLine.{eventsOf, memoryAt, holdersAt, outAt, answerAt, Completes, takenAt, turnsSince}

@@ -174,8 +174,8 @@ SetupsTaken =
     (mode n k version : ℕ) → mode ≤ 1 → 1 ≤ n → n ≤ 256 → 1 ≤ k → k ≤ 16 → k ≤ n → (version ≡ 1) ⊎ (version ≡ 2)
     → SetUp (settings mode n k version) largest
 
--- k = 17: 1. k = 3, N = 2: 1. N = 257: 1. So is a mode of 2; and 02, P3: a version of 0 or 3. Whatever else the settings
--- say, whatever is lent, and whichever call it is
+-- k = 17: 1. k = 3, N = 2: 1. N = 257: 1. So is a mode of 2; and 02, P3: a version of 0 or 3. Whatever else the
+-- settings say, whatever is lent, and whichever call it is
 abbrev pub Outside : Settings → Type 0
 Outside s =
     (s .k ≡ 17) ⊎ (((s .k ≡ 3) × (s .n ≡ 2)) ⊎ ((s .n ≡ 257) ⊎ ((s .mode ≡ 2)

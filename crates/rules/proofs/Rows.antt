@@ -4,7 +4,8 @@ use Prim.Native.Nat.{ℕ}
 use lib.Dec.{T, ltb}
 use borrow.Author.Tests.{not-false}
 use Rattle.machine.specs.{Settings.permitted, Places.blocks, Memory.{Memory, marksNeeded, badX, badMark}}
-use Rattle.machine.specs.Refusals.{Case, when, first, outsideLimits, rowShort, rowBusy, lentCases, rangeCases, taskCases}
+use Rattle.machine.specs.Refusals.{Case, when, first, outsideLimits, rowShort, rowBusy, lentCases, rangeCases}
+use Rattle.machine.specs.Refusals.{taskCases}
 use Rattle.machine.specs.Refusals.{verdict, setupVerdict}
 use Rattle.machine.specs.declared.{Settings.Settings, View.View, Kind.Kind, Refusal.Refusal, Verdict.Verdict}
 use Rattle.machine.proofs.refusals.{Deciding.no-case, Passed.{Long, none-short-long}}

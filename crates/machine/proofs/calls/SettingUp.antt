@@ -41,7 +41,8 @@ module _ (s : Settings) (m : Memory) where
   clears : NoneHolds (setupLines s m) → needed s (setup s m .memory) ≡ clear s
   clears none =
       ap (needed s) (setup-memory s m (lent-done none))
-      ∙ same-rows (all-idle (m .records) (s .n) (lent-long s m (lent-done none) .records) (lent-idle s m (lent-done none)))
+      ∙ same-rows
+      (all-idle (m .records) (s .n) (lent-long s m (lent-done none) .records) (lent-idle s m (lent-done none)))
       (fill-needed (blocks s) 0 (m .xs))
       (fill-needed (marksNeeded s) 0 (m .marks))
 

@@ -1,5 +1,5 @@
--- Demand 3, "No turn of a seeking task is refused": J0 has tests 1 to 3 pass, and those of the task ask nothing more of the turn
--- of a task that seeks.
+-- Demand 3, "No turn of a seeking task is refused": J0 has tests 1 to 3 pass, and those of the task ask nothing more of
+-- the turn of a task that seeks.
 use mathlib.Core.{Path.{_≡_, refl}, Bool.{false, not}, List.List}
 use Prim.Native.Nat.{ℕ, _<_}
 use lib.Dec.{T}

@@ -8,8 +8,10 @@ use lib.Dec.{T, eqb, T-not}
 use Rattle.machine.specs.{Refusals.{Case, first}, Answers.{Said, refusalSaid, numberOf}}
 use Rattle.machine.specs.promises.Refusing.{Line, NoneHolds, FirstHolds, RefusedExactly, Numbered, NoOtherNumber}
 use Rattle.machine.specs.declared.Refusal.{Refusal}
-use Rattle.machine.specs.declared.Refusal.the-variants.{Limits, ShortRow, BusyRow, OutOfRange, NoSuchTask, OneTime}
-use Rattle.machine.specs.declared.Refusal.the-variants.{TaskIdle, TaskSeeks, TaskHolds, TooManyOut, FileLength, Letters}
+use Rattle.machine.specs.declared.Refusal.the-variants.{Limits, ShortRow, BusyRow, OutOfRange, NoSuchTask}
+use Rattle.machine.specs.declared.Refusal.the-variants.{OneTime}
+use Rattle.machine.specs.declared.Refusal.the-variants.{TaskIdle, TaskSeeks, TaskHolds, TooManyOut, FileLength}
+use Rattle.machine.specs.declared.Refusal.the-variants.{Letters}
 use Rattle.machine.specs.declared.Refusal.the-variants.{Version, TooManyEvents, EventCode, NoEvent, ShortRoom}
 use Rattle.machine.specs.declared.Verdict.{Verdict, the-variants.{Accepted, Refused}}
 use Rattle.counting.proofs.{Bools.{and-l, and-r}, Tested.{Tested, same}}

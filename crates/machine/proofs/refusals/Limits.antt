@@ -3,7 +3,8 @@ use mathlib.Core.{Path.{_≡_, refl}, Logic.{_⊎_, inl, inr, ⊎-elim, _↔_}, 
 use Prim.Native.Nat.{ℕ, zero, suc, _≤_}
 use native.Mathlib.Omega.{arith}
 use lib.Dec.{T, eqb}
-use Rattle.machine.specs.{Settings.{knownVersion, permitted, width}, promises.Ranges.WithinLimits, declared.Settings.Settings}
+use Rattle.machine.specs.{Settings.{knownVersion, permitted, width}, promises.Ranges.WithinLimits}
+use Rattle.machine.specs.declared.Settings.{Settings}
 use Rattle.counting.proofs.Tested.{Tested, most, same, both, either, meaning}
 
 pub zero-or-one : (mode : ℕ) → (mode ≤ 1) ↔ ((mode ≡ 0) ⊎ (mode ≡ 1))

@@ -13,7 +13,8 @@ use Rattle.machine.specs.declared.Settings.{Settings}
 use Rattle.machine.specs.declared.Point.{Point, the-variants.{WriteX, Scan, WriteMark, ReadX, Clear}}
 use Rattle.machine.specs.declared.State.{State, the-variants.{Idle, Seeking, Holding}}
 use Rattle.machine.specs.declared.Kind.{Kind, the-variants.{Ask, Turn, Release}}
-use Rattle.machine.specs.declared.{Row.{Row, the-variants.{Records, Xs, Marks}}, Refusal.the-variants.{TaskIdle, TaskSeeks, TaskHolds}}
+use Rattle.machine.specs.declared.Row.{Row, the-variants.{Records, Xs, Marks}}
+use Rattle.machine.specs.declared.Refusal.the-variants.{TaskIdle, TaskSeeks, TaskHolds}
 use Rattle.grid.specs.Triangle.{half}
 use Rattle.counting.proofs.Tested.{Tested, below, most, same, both, either, fails, meaning, always, never, misses}
 use Rattle.counting.proofs.{Searching.count-same, Some.some-counted}

@@ -12,7 +12,8 @@ use Rattle.machine.specs.Answers.{said, isAccepted}
 use Rattle.machine.specs.Calls.{Outcome, answerOf, nextState, accept, refuseOr, verdictOf, cleared}
 use Rattle.machine.specs.promises.Ranges.{WithinLimits}
 use Rattle.machine.specs.promises.Refusing.{Line, line, FirstHolds, RefusedExactly, SomeBusy, taskLines}
-use Rattle.machine.specs.promises.Refusing.{lentLines, rangeLines, setupLines, callLines, TellsFirstBad, in-records, in-xs, in-marks}
+use Rattle.machine.specs.promises.Refusing.{lentLines, rangeLines, setupLines, callLines, TellsFirstBad}
+use Rattle.machine.specs.promises.Refusing.{in-records, in-xs, in-marks}
 use Rattle.machine.specs.promises.Refusing.{callSays, setupSays, CallRefused, RefusalExact, RefusedChangesNothing}
 use Rattle.machine.specs.declared.{Settings.Settings, State.{State, the-variants.{Idle, Seeking, Holding}}}
 use Rattle.machine.specs.declared.{Kind.{Kind, the-variants.{Ask, Turn, Release}}, Event.Event}
@@ -21,10 +22,12 @@ use Rattle.machine.specs.declared.Refusal.the-variants.{BusyRow, NoSuchT
 use Rattle.machine.specs.declared.Answer.{Answer, the-variants.{Done, Seeks, Holds, Freed, Refused}}
 use Rattle.counting.proofs.Tested.{most, fails, passes, misses, cannot-fail}
 use Rattle.machine.proofs.refusals.Limits.{limits-tested}
-use Rattle.machine.proofs.refusals.Lines.{short-line, release-line, idle-line, seeking-line, holding-line, busy-line, out-line}
+use Rattle.machine.proofs.refusals.Lines.{short-line, release-line, idle-line, seeking-line, holding-line}
+use Rattle.machine.proofs.refusals.Lines.{busy-line, out-line}
 use Rattle.machine.proofs.refusals.Lines.{momentCases, moment-as-three}
 use Rattle.machine.proofs.refusals.BadValue.{found-line, first-found}
-use Rattle.machine.proofs.refusals.Deciding.{refusal-says, decide-alike, not-first, Are, refused-exactly, refusal-keeps}
+use Rattle.machine.proofs.refusals.Deciding.{refusal-says, decide-alike, not-first, Are, refused-exactly}
+use Rattle.machine.proofs.refusals.Deciding.{refusal-keeps}
 
 -- ---- what answers say
 
@@ -161,7 +164,8 @@ module _ (s : Settings) (event : Event) (m : Memory) where
       whole = misses (short-line s l m) long
 
       go : FirstHolds (rangeLines s m (taskLines s event m)) 3
-          → TellsFirstBad s m (said (refuseOr (first (rangeCases s seen m ownCases)) m (ruled s event m) .answer) .values)
+          → TellsFirstBad s m
+          (said (refuseOr (first (rangeCases s seen m ownCases)) m (ruled s event m) .answer) .values)
       go (inl (bad, e)) = rw (passes (found-line s l m Records) bad)
           (in-records (first-found s l m Records (found-line s l m Records .shows bad)))
       go (inr (records, inl (bad, e))) =

@@ -1,5 +1,5 @@
--- 01, "Memory that is lent" and "Rules of the grid", and 02, P3: how many blocks and names there are, the number of each, and what
--- the tests of a state say. Theorems: `places-numbered`, `state-told`.
+-- 01, "Memory that is lent" and "Rules of the grid", and 02, P3: how many blocks and names there are, the number of
+-- each, and what the tests of a state say. Theorems: `places-numbered`, `state-told`.
 use mathlib.Core.{Path._≡_, Logic._↔_}
 use Prim.Native.Nat.{ℕ, _+_, _-_, _*_, _/_, _≤_}
 use lib.Dec.{T}

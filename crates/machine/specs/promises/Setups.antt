@@ -1,6 +1,6 @@
--- 02, P4: "A technician started setup twice, and two held rows of the band table were given out again." Setups among the
--- calls of a history: while a task is out setup declines, and a history with refused setups in it is the history without
--- them, so that demand 3 goes on over it. Theorem: `setups-among-calls`.
+-- 02, P4: "A technician started setup twice, and two held rows of the band table were given out again." Setups among
+-- the calls of a history: while a task is out setup declines, and a history with refused setups in it is the history
+-- without them, so that demand 3 goes on over it. Theorem: `setups-among-calls`.
 use mathlib.Core.{Path._≡_, List.{List, [], _∷_}}
 use Prim.Native.Nat.{ℕ, _≤_, _<_}
 use Rattle.machine.specs.{Memory.{Memory, stateOf}, Calls.{call, setup}, History.{Answered, history, run}}
