@@ -48,15 +48,33 @@ pub fn permitted(s: Settings) -> bool
     known_version(s.version)
 }
 
-// The half product r(r-1)/2.
+// The half products r(r-1)/2 of r from 0 to 16.
+const HALVES: [u8; 17] = [
+    0,
+    0,
+    1,
+    3,
+    6,
+    10,
+    15,
+    21,
+    28,
+    36,
+    45,
+    55,
+    66,
+    78,
+    91,
+    105,
+    120,
+];
+
+// The half product r(r-1)/2, from the table.
 pub fn half(r: usize) -> usize
     requires { ⌜ r ≤ 16 ⌝ }
     ensures { λ x. ⌜ x ≡ half r ⌝ }
 {
-    if r == 0 {
-        return 0;
-    }
-    r * (r - 1) / 2
+    HALVES[r] as usize
 }
 
 // How many blocks the grid has.
