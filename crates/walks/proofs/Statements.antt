@@ -128,7 +128,8 @@ module _ {M : Type 1} {𝓤 : URA M} {H : Heap 𝓤} {A : Atoms 𝓤} {K : Type 
   -- the same of a declared struct, whose types are those of its declaration: they are not worked out from the code's
   -- table of types, which is long
   pub copies-part : K → (S : Declared) {k f : ℕ} {vs : Vals} {τ : Ty} {d : ℕ}
-      → Struct 𝓤 H A Γ E k (S .name) (toTys (mirs (fields S))) vs → fieldAt zero (toTys (mirs (fields S))) f ≡ some (τ, d)
+      → Struct 𝓤 H A Γ E k (S .name) (toTys (mirs (fields S))) vs
+      → fieldAt zero (toTys (mirs (fields S))) f ≡ some (τ, d)
       → fieldOf (type-of 𝓤 H A Γ E k) f ≡ some (τ, d) → Opd K W Γ E (copy (place k (field f ∷ []))) (getV vs f)
   copies-part t S = copies-field t
 
