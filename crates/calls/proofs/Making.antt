@@ -1,7 +1,11 @@
 -- A call by its enum is setup, or the call of its event.
-use mathlib.Core.Path.{_≡_}
+use mathlib.Core.Path.{_≡_, refl}
 use Rattle.machine.specs.{Memory.Memory, Calls.{Outcome, setup, call}, declared.{Settings.Settings, Event.Event}}
-use Rattle.calls.specs.{Made.outcomeOf, declared.Call.Call}
+use Rattle.calls.specs.{Made.{outcomeOf, EachMade}, declared.Call.Call}
+
+pub each-made : EachMade
+unfolding outcomeOf
+each-made s m = (refl, λ event. refl)
 
 module _ (s : Settings) (called : Call) (m : Memory) (left : Outcome) where
   pub setup-made : called ≡ Call.Setup → left ≡ setup s m → left ≡ outcomeOf s called m

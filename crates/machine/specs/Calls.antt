@@ -1,4 +1,5 @@
--- 01, "Rules of the grid": setup, ask, turn and release, from the memory before to the answer and the memory after.
+-- 01, "Rules of the grid", and 02, P4: setup, ask, turn and release, from the memory before to the answer and the
+-- memory after.
 use Prim.Native.Nat.{ℕ}
 use Rattle.machine.specs.Places.{blocks, nameNumber}
 use Rattle.machine.specs.Memory.{Memory, marksNeeded, stateOf, viewOf, withRecord, fill}

@@ -1,4 +1,4 @@
--- 01, "Numbers of refusal": each case by itself, and the first of them in each call's order.
+-- 01, "Numbers of refusal", and 02, P1 and P4: each case by itself, and the first of them in each call's order.
 use mathlib.Core.{Bool.{Bool, false, not, _||_, cond}, List.{List, [], _∷_}}
 use Prim.Native.Nat.{ℕ}
 use lib.{Dec.{eqb, leb, ltb}, ListN.length}
@@ -95,6 +95,6 @@ rowBusy seen = ltb 0 (seen .out)
 abbrev pub setupVerdict : Settings → View → Memory → Verdict
 setupVerdict s seen m = first (lentCases s seen m (when (rowBusy seen) BusyRow ∷ []))
 
--- the other calls all of them
+-- the other calls all but 18
 abbrev pub verdict : Settings → Kind → ℕ → View → Memory → Verdict
 verdict s kind p seen m = first (lentCases s seen m (rangeCases s seen m (taskCases s kind p seen)))

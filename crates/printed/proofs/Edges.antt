@@ -18,7 +18,8 @@ use Rattle.machine.proofs.histories.Exact.{setup-takes-largest}
 use Rattle.machine.proofs.calls.Fresh.{setup-within, fresh-idle, fresh-none-out, fresh-fit}
 use Rattle.text.specs.Decimal.{decimal}
 use Rattle.printed.specs.Edges.{FiveNames, FiveByDiagonal, NoTurns, LoneTask, TheOtherTask, TheListing}
-use Rattle.printed.specs.Edges.{TwoAsks, TwoOut, LastIdentifier, NoRelease, NoReleaseIdle, settings, named}
+use Rattle.printed.specs.Edges.{TwoAsks, SetupAgain, TwoOut, LastIdentifier, NoRelease, NoReleaseIdle, settings}
+use Rattle.printed.specs.Edges.{named}
 use Rattle.printed.specs.Edges.{Refuses}
 use Rattle.printed.specs.Edges.{SetupsTaken, Outside, OutsideRefused, Edges}
 use Rattle.printed.proofs.OneTimePair.{one-time-pair}
@@ -46,6 +47,10 @@ the-listing = ((refl, refl, refl), (refl, refl, refl))
 two-asks : TwoAsks
 unfolding half placeNumber diagonalNumber count firstBad decimal
 two-asks = ((refl, refl), (refl, refl))
+
+setup-again : SetupAgain
+unfolding half placeNumber diagonalNumber count firstBad
+setup-again = ((refl, refl), (refl, refl))
 
 two-out : TwoOut
 unfolding half placeNumber count firstBad
@@ -141,6 +146,7 @@ edges = record {
   one-time-pair = one-time-pair;
   the-listing = the-listing;
   two-asks = two-asks;
+  setup-again = setup-again;
   two-out = two-out;
   last-identifier = last-identifier;
   no-release = no-release;

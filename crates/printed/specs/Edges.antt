@@ -1,7 +1,7 @@
--- 01, "Both sides of each edge": the nine starred lines and both sides of the limits, as one statement. A run begins
--- with setup of a lent memory. Where a line leaves N, k, mode or task open it is stated for all that are permitted; the
--- lines that fix N and k and follow a run of turns are stated on the largest memory: setup clears what is needed, and
--- by `SurplusNeverBears` the rest changes no answer (docs/DECISIONS.md).
+-- 01, "Both sides of each edge": the nine starred lines and both sides of the limits, as one statement, with the figures
+-- that 02 names (P2 to P4). A run begins with setup of a lent memory. Where a line of 01 leaves N, k, mode or task open
+-- it is stated for all that are permitted; the lines that fix N and k and follow a run of turns are stated on the largest
+-- memory: setup clears what is needed, and by `SurplusNeverBears` the rest changes no answer (docs/DECISIONS.md).
 use mathlib.Core.{Path._≡_, Logic._⊎_, List.{List, [], _∷_, _++_, map}}
 use Prim.Native.Nat.{ℕ, _+_, _≤_, _<_}
 use lib.Dec.{T}
@@ -129,6 +129,13 @@ TwoAsks = BothVersions (λ version.
     (listing (twoAsks 1 version) ≡ bytesOf "grid 1 2 2\n0 ask 0 seeks\n1 ask 1 seeks\nend 0 2 0\n")
     × (listing (twoAsks 0 version) ≡ bytesOf "grid 0 2 2\n0 ask 0 seeks\n1 ask 1 seeks\nend 0 2 0\n"))
 
+-- 02, P4: while a task is out setup is 18; after its release setup is done again
+abbrev pub SetupAgain : Type 0
+SetupAgain = BothVersions (λ version.
+    Refuses 18 (setup (settings 1 2 2 version) (memoryAfter (settings 1 2 2 version) largest (ask 0 ∷ [])) .answer)
+    × (setup (settings 1 2 2 version)
+    (memoryAfter (settings 1 2 2 version) largest (acquires 0 5 ++ (release 0 ∷ []))) .answer ≡ Answer.Done))
+
 -- Mode 1, N = 3, k = 2, two out, the third task's ask: 7. After one is freed: accepted. The two are both at their
 -- start, or p holds, or both hold; either is freed. Behind the holder p the other needs p + 3 turns: write X, scan to
 -- p's mark, clear
@@ -195,6 +202,7 @@ pub record Edges : Type 0 where
   pub one-time-pair : OneTimePair
   pub the-listing : TheListing
   pub two-asks : TwoAsks
+  pub setup-again : SetupAgain
   pub two-out : TwoOut
   pub last-identifier : LastIdentifier
   pub no-release : NoRelease

@@ -1,7 +1,7 @@
 -- Setups among the calls of a history: refused while somebody is out, and then nothing has happened.
 use mathlib.Core.{Path.{_≡_, refl, ap, subst, _∙_}, Logic.{inl, inr}, List.{List, [], _∷_}}
 use Prim.Native.Nat.{ℕ, _≤_, _<_}
-use native.Mathlib.Omega.{arith}
+use native.Mathlib.{Decide.ℕ-discrete, Omega.arith}
 use lib.{Dec.T, ListN.length}
 use Rattle.machine.specs.{Memory.{Memory, stateOf}, Calls.{call, setup}, History.{Answered, history, run}}
 use Rattle.machine.specs.promises.{Refusing.{SomeRowShort, setupSays}, Ranges.WithinLimits}
@@ -38,10 +38,20 @@ setups-dropped s [] m refused = (refl, refl)
 setups-dropped s (calls event ∷ acts) m refused =
     let (memory, answers) = setups-dropped s acts (call s event m .memory) refused in
     (memory, ap (λ (rest : List Answered). record { event = event; answer = call s event m .answer } ∷ rest) answers)
-setups-dropped s (sets-up ∷ acts) m refused =
-    let (memory, answers) = setups-dropped s acts (setup s m .memory) (refused .1) in
-    let stays = refused-changes-nothing .setups s m (refused .0) in
+setups-dropped s (sets-up t ∷ acts) m refused =
+    let (memory, answers) = setups-dropped s acts (setup t m .memory) (refused .1) in
+    let stays = refused-changes-nothing .setups t m (refused .0) in
     (memory ∙ ap (run s (callsIn acts)) stays, answers ∙ ap (history s (callsIn acts)) stays)
 
+over-busy : (t : Settings) (m : Memory) (p : ℕ) → p < t .n → (stateOf m p ≡ Idle → ⊥)
+    → (1 ≤ setupSays t m .number) × (setup t m .memory ≡ m)
+over-busy t m p l out = (refused, refused-changes-nothing .setups t m refused)
+  where
+    refused : 1 ≤ setupSays t m .number
+    refused = elim (ℕ-discrete (setupSays t m .number) 0) [
+      | yes none ↦ absurd (setup-exactly t m .accepted .0 none .1 .1 .0 (p, l, out))
+      | no some ↦ omega arith
+    ]
+
 pub setups-among-calls : SetupsAmongCalls
-setups-among-calls = record { declines = declined; dropped = setups-dropped }
+setups-among-calls = record { declines = declined; never-over-busy = over-busy; dropped = setups-dropped }

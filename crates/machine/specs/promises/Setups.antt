@@ -7,34 +7,34 @@ use Rattle.machine.specs.{Memory.{Memory, stateOf}, Calls.{call, setup},
 use Rattle.machine.specs.promises.{Refusing.setupSays, Demands.{SetUp, memoryAfter}}
 use Rattle.machine.specs.declared.{Settings.Settings, State.the-variants.Idle, Event.Event}
 
--- what a supervisor does: a call, or a setup
+-- what a supervisor does: a call, or a setup, with whatever settings
 pub data Act : Type 0 where
   calls : Event → Act
-  sets-up : Act
+  sets-up : Settings → Act
 
 -- the calls alone
 abbrev pub callsIn : List Act → List Event
 callsIn [] = []
 callsIn (calls event ∷ acts) = event ∷ callsIn acts
-callsIn (sets-up ∷ acts) = callsIn acts
+callsIn (sets-up t ∷ acts) = callsIn acts
 
 -- the memory that a list of acts leaves, and the calls in it with their answers
 abbrev pub memoryOf : Settings → List Act → Memory → Memory
 memoryOf s [] m = m
 memoryOf s (calls event ∷ acts) m = memoryOf s acts (call s event m .memory)
-memoryOf s (sets-up ∷ acts) m = memoryOf s acts (setup s m .memory)
+memoryOf s (sets-up t ∷ acts) m = memoryOf s acts (setup t m .memory)
 
 abbrev pub answersOf : Settings → List Act → Memory → List Answered
 answersOf s [] m = []
 answersOf s (calls event ∷ acts) m =
     record { event = event; answer = call s event m .answer } ∷ answersOf s acts (call s event m .memory)
-answersOf s (sets-up ∷ acts) m = answersOf s acts (setup s m .memory)
+answersOf s (sets-up t ∷ acts) m = answersOf s acts (setup t m .memory)
 
 -- each setup in it is refused
 abbrev pub SetupsRefused : Settings → List Act → Memory → Type 0
 SetupsRefused s [] m = Unit {0}
 SetupsRefused s (calls event ∷ acts) m = SetupsRefused s acts (call s event m .memory)
-SetupsRefused s (sets-up ∷ acts) m = (1 ≤ setupSays s m .number) × SetupsRefused s acts (setup s m .memory)
+SetupsRefused s (sets-up t ∷ acts) m = (1 ≤ setupSays t m .number) × SetupsRefused s acts (setup t m .memory)
 
 pub record SetupsAmongCalls : Type 0 where
   -- after any history, while some task of the N seeks or holds: 18, and nothing changes
@@ -42,6 +42,9 @@ pub record SetupsAmongCalls : Type 0 where
       → (stateOf (memoryAfter s lent events) p ≡ Idle → ⊥)
       → (setupSays s (memoryAfter s lent events) .number ≡ 18)
       × (setup s (memoryAfter s lent events) .memory ≡ memoryAfter s lent events)
+  -- and whatever the memory and the settings: no setup is accepted over a record of theirs that is not idle
+  pub never-over-busy : (t : Settings) (m : Memory) (p : ℕ) → p < t .n → (stateOf m p ≡ Idle → ⊥)
+      → (1 ≤ setupSays t m .number) × (setup t m .memory ≡ m)
   -- with refused setups dropped, every call has the same answer and the memory is the same
   pub dropped : (s : Settings) (acts : List Act) (m : Memory) → SetupsRefused s acts m
       → (memoryOf s acts m ≡ run s (callsIn acts) m) × (answersOf s acts m ≡ history s (callsIn acts) m)
