@@ -1,10 +1,14 @@
-// The one register that a call of one task's record touches. Nothing above this crate matches on
-// points.
+// The one register that a call of one task's record touches, and what an answer shows of it. Nothing
+// above this crate matches on points.
 
 use machine::Access;
+use machine::Letter;
+use machine::Op;
 use machine::Point;
 use machine::Record;
+use machine::Register;
 use machine::Settings;
+use machine::Shown;
 use machine::State;
 use machine::TaskId;
 use places::block_number;
@@ -15,17 +19,19 @@ ghost use lib.Dec.{T};
 ghost use Rattle.machine.specs.Settings.{permitted, own};
 ghost use Rattle.machine.specs.Places.{blockNumber};
 ghost use Rattle.machine.specs.Records.{recordInRange};
-ghost use Rattle.machine.specs.Turn.{pointAccess, turnAccess, releaseAccess};
+ghost use Rattle.machine.specs.Turn.{pointAccess, turnAccess, releaseAccess, opShown, shownBy};
 
 // The task's own mark in the block at (r, c) becomes `value`.
-fn own_mark(s: Settings, task: TaskId, r: u8, c: u8, value: u8) -> Access
+fn own_mark(s: Settings, task: TaskId, r: u8, c: u8, value: u32) -> Access
     requires { ⌜ T (permitted s) × (r + c + 2 ≤ s .k) ⌝ }
-    ensures { λ access. ⌜ access ≡ Access.MarkWritten (blockNumber s r c) (own s (task .0)) value ⌝ }
+    ensures { λ access. ⌜ access ≡ Access.Touch (Register.Mark (blockNumber s r c) (own s (task .0))) (Op.Write value) ⌝ }
 {
-    Access::MarkWritten {
-        block: block_number(s, r, c),
-        place: own(s, task),
-        value: value,
+    Access::Touch {
+        register: Register::Mark {
+            block: block_number(s, r, c),
+            place: own(s, task),
+        },
+        op: Op::Write(value),
     }
 }
 
@@ -36,16 +42,22 @@ fn point_access(s: Settings, task: TaskId, r: u8, c: u8, point: Point) -> Access
 {
     let block = block_number(s, r, c);
     match point {
-        Point::WriteX => Access::XWritten {
-            block: block,
-            value: task.0 as u32 + 1,
+        Point::WriteX => Access::Touch {
+            register: Register::X { block: block },
+            op: Op::Write(task.0 as u32 + 1),
         },
-        Point::Scan(h) => Access::MarkRead {
-            block: block,
-            place: h as usize,
+        Point::Scan(h) => Access::Touch {
+            register: Register::Mark {
+                block: block,
+                place: h,
+            },
+            op: Op::Read,
         },
         Point::WriteMark => own_mark(s, task, r, c, 1),
-        Point::ReadX => Access::XRead { block: block },
+        Point::ReadX => Access::Touch {
+            register: Register::X { block: block },
+            op: Op::Read,
+        },
         Point::Clear(_) => own_mark(s, task, r, c, 0),
     }
 }
@@ -79,5 +91,33 @@ pub fn release_access(s: Settings, task: TaskId, this: Record) -> Access
             }
             Access::NoAccess
         }
+    }
+}
+
+// What is shown of an operation on a register: the value read, which is v, or the value written.
+fn op_shown(op: Op, register: Register, v: u32) -> Shown
+    ensures { λ shown. ⌜ shown ≡ opShown op register v ⌝ }
+{
+    match op {
+        Op::Read => Shown::Touched {
+            letter: Letter::R,
+            register: register,
+            value: v,
+        },
+        Op::Write(value) => Shown::Touched {
+            letter: Letter::W,
+            register: register,
+            value: value,
+        },
+    }
+}
+
+// What an answer shows of the access, where v is the value read.
+pub fn shown(access: Access, v: u32) -> Shown
+    ensures { λ shown. ⌜ shown ≡ shownBy access v ⌝ }
+{
+    match access {
+        Access::NoAccess => Shown::Nothing,
+        Access::Touch { register, op } => op_shown(op, register, v),
     }
 }

@@ -1,14 +1,15 @@
 -- A call is what its decision says: the record decided is put back in its place, and the registers are those decided.
 -- Likewise setup, whose records stay.
-use mathlib.Core.{Path.{_≡_, refl, sym, ap}, List.List}
+use mathlib.Core.{Path.{_≡_, refl, sym, ap}, Bool.{Bool, true, false, cond}, List.List}
 use Prim.Native.Nat.{ℕ}
 use lib.{ListN.{getD, set}, Seq.set-getD}
-use Rattle.machine.specs.{Records.{idle, recordInRange}, Memory.{Memory, viewOf}, Turn.{access, value, store}}
+use Rattle.machine.specs.{Records.{idle, recordInRange}, Memory.{Memory, viewOf, content, put}}
+use Rattle.machine.specs.Turn.{opWrites, seen, left, access, value, store}
 use Rattle.machine.specs.{Calls.{Outcome, refuseOr, accept, call, cleared, setup, eventOf}, Lent.{lent, leaves}}
 use Rattle.machine.specs.declared.{Settings.Settings, Record.Record}
-use Rattle.machine.specs.declared.Access.{Access, the-variants.{NoAccess, XRead, XWritten, MarkRead, MarkWritten}}
-use Rattle.machine.specs.declared.{Kind.Kind, Verdict.Verdict, Answer.Answer}
-use Rattle.machine.specs.Refusals.{verdict, setupVerdict}
+use Rattle.machine.specs.declared.{Register.{Register, the-variants.{X, Mark}}, Access.{Access, the-variants.{NoAccess, Touch}}}
+use Rattle.machine.specs.declared.{Kind.Kind, Verdict.Verdict, Told.Told}
+use Rattle.machine.specs.{Refusals.{verdict, setupVerdict}, Answers.plain}
 use Rattle.counting.proofs.Searching.{none-bad-all}
 use Rattle.rules.specs.Decision.{Sees, Decision, decisionBy, decision, preparation}
 
@@ -23,19 +24,27 @@ beside records m = lent records (m .xs) (m .marks)
 -- ---- an access touches the registers alone
 
 module _ (s : Settings) (records : List Record) (m : Memory) where
+  same-content : (register : Register) → content s register (beside records m) ≡ content s register m
+  same-content (X block) = refl
+  same-content (Mark block place) = refl
+
+  same-put : (register : Register) (v : ℕ) → put s register v (beside records m) ≡ beside records (put s register v m)
+  same-put (X block) v = refl
+  same-put (Mark block place) v = refl
+
   same-value : (touch : Access) → value s touch (beside records m) ≡ value s touch m
   same-value NoAccess = refl
-  same-value (XRead block) = refl
-  same-value (XWritten block v) = refl
-  same-value (MarkRead block place) = refl
-  same-value (MarkWritten block place v) = refl
+  same-value (Touch register op) = ap (seen op) (same-content register)
 
   same-store : (touch : Access) → store s touch (beside records m) ≡ beside records (store s touch m)
   same-store NoAccess = refl
-  same-store (XRead block) = refl
-  same-store (XWritten block v) = refl
-  same-store (MarkRead block place) = refl
-  same-store (MarkWritten block place v) = refl
+  same-store (Touch register op) = rw (same-content register) (go (opWrites op))
+    where
+      go : (writes : Bool)
+          → cond writes (put s register (left op (content s register m)) (beside records m)) (beside records m)
+          ≡ beside records (cond writes (put s register (left op (content s register m)) m) m)
+      go true = same-put register _
+      go false = refl
 
 -- ---- ask, turn and release
 
@@ -69,7 +78,7 @@ pub by-preparation : (s : Settings) (records : List Record) (m : Memory)
     → preparedOutcome records (preparation s (viewOf s records 0) m) ≡ setup s (beside records m)
 by-preparation s records m = go (setupVerdict s (viewOf s records 0) m)
   where
-    go : (v : Verdict) → preparedOutcome records (refuseOr v m (leaves Answer.Done (cleared s m)))
-        ≡ refuseOr v (beside records m) (leaves Answer.Done (cleared s (beside records m)))
+    go : (v : Verdict) → preparedOutcome records (refuseOr v m (leaves (plain Told.Done) (cleared s m)))
+        ≡ refuseOr v (beside records m) (leaves (plain Told.Done) (cleared s (beside records m)))
     go (Verdict.Refused why) = refl
     go Verdict.Accepted = refl

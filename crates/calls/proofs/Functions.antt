@@ -23,7 +23,7 @@ use Rattle.calls.proofs.step_of as step-of
 use Rattle.calls.proofs.setup_of as setup-of
 
 abbrev pub answer-data : Data A₁.the-row
-answer-data = enum A₁.the-type A₁′.the-laws tt A₁′.the-plain A₁′.the-copy
+answer-data = struct A₁.the-type A₁′.the-laws A₁′.the-plain A₁′.the-copy
 
 abbrev pub kind-data : Data K.the-row
 kind-data = enum K.the-type K′.the-laws tt K′.the-plain K′.the-copy

@@ -35,9 +35,9 @@ module _ (s : Settings) (position : ℕ) (event : Event) (at : Standing) (m : Me
       → to .turns ≡ turnsAfter event (left .answer) (at .turns)
       → to .peak ≡ max (at .peak) (outOf s (left .memory .records))
       → to .most
-      ≡ max (at .most) (completed (left .answer)
+      ≡ max (at .most) (completed (left .answer .told)
       (getD (turnsAfter event (left .answer) (at .turns)) (event .task .0) 0))
-      → Writes 31 room (at .at) (eventLine position event (left .answer)) (to .at) room′
+      → Writes 56 room (at .at) (eventLine position event (left .answer)) (to .at) room′
       → Advanced s position event at m room to (left .memory) room′
   stands-advanced calls turns peak most line =
       record { stands = rw (sym calls, turns, peak, most); line = rw (sym calls) line }
@@ -52,7 +52,7 @@ pub record Stands (s : Settings) (file : List ℕ) (i : ℕ) (at : Standing) (m 
     (first room : List ℕ) : Type 0 where
   pub lines : List ℕ
   pub stands : progressOf at m lines ≡ progress s file i
-  pub printed : Writes (23 + 31 * i) first 0 lines (at .at) room
+  pub printed : Writes (23 + 56 * i) first 0 lines (at .at) room
 
 -- lines before those of a progress
 abbrev after : List ℕ → Progress → Progress
@@ -74,7 +74,7 @@ module _ (s : Settings) (file : List ℕ) where
 
   pub advances : (i : ℕ) (at : Standing) (m : Memory) (first room : List ℕ) (to : Standing) (m′ : Memory)
       (room′ : List ℕ)
-      → 23 + 31 * i + 31 ≤ length first → Stands s file i at m first room
+      → 23 + 56 * i + 56 ≤ length first → Stands s file i at m first room
       → Advanced s i (eventAt file i) at m room to m′ room′
       → Stands s file (i + 1) to m′ first room′
   advances i at m first room to m′ room′ fits before step =
@@ -86,12 +86,12 @@ module _ (s : Settings) (file : List ℕ) where
             ∙ ap (λ (o : Outcome). advanceBy s i event o here) (call-outcome s event m)
             ∙ ap (advance s i event) (before .stands)
             ∙ ap (progress s file) (sym (add-one i));
-        printed = wider (then (before .printed) 31 (omega arith) (λ more. step .line)) (23 + 31 * (i + 1))
+        printed = wider (then (before .printed) 56 (omega arith) (λ more. step .line)) (23 + 56 * (i + 1))
             (omega arith);
       }
 
   pub ends : (i : ℕ) (at : Standing) (m : Memory) (first room : List ℕ) (holders to : ℕ) (room′ : List ℕ)
-      → 23 + 31 * i + 22 ≤ length first → Stands s file i at m first room → holders ≡ holdersOf s (m .records)
+      → 23 + 56 * i + 22 ≤ length first → Stands s file i at m first room → holders ≡ holdersOf s (m .records)
       → Writes 22 room (at .at) (endLine holders (at .peak) (at .most)) to room′
       → Puts first 0 (ended s (progress s file i)) to room′
   ends i at m first room holders to room′ fits before counted last =
@@ -100,7 +100,7 @@ module _ (s : Settings) (file : List ℕ) where
 module _ {s : Settings} {file : List ℕ} {i : ℕ} {at : Standing} {m : Memory} {first room : List ℕ}
     (here : Stands s file i at m first room) where
   -- what is left of the room
-  pub stands-room : (more : ℕ) → 23 + 31 * i + more ≤ length first → at .at + more ≤ length room
+  pub stands-room : (more : ℕ) → 23 + 56 * i + more ≤ length first → at .at + more ≤ length room
   stands-room more fits = next (here .printed) more (omega arith)
 
   -- no count of turns is at its limit

@@ -40,4 +40,4 @@ advanced s position event at m = advanceBy s position event (outcomeOf s (Call.O
 pub record Advanced (s : Settings) (position : ℕ) (event : Event) (at : Standing) (m : Memory) (room : List ℕ)
     (to : Standing) (m′ : Memory) (room′ : List ℕ) : Type 0 where
   pub stands : progressOf to m′ (advanced s position event at m .lines) ≡ advanced s position event at m
-  pub line : Writes 31 room (at .at) (advanced s position event at m .lines) (to .at) room′
+  pub line : Writes 56 room (at .at) (advanced s position event at m .lines) (to .at) room′

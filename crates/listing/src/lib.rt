@@ -13,6 +13,7 @@ use machine::Refusal;
 use machine::Settings;
 use machine::State;
 use machine::TaskId;
+use machine::Told;
 use machine::Writing;
 use report::put_end;
 use report::put_event;
@@ -24,7 +25,7 @@ ghost use lib.ListN.{length, getD, replicate};
 ghost use Rattle.machine.specs.Records.{idle};
 ghost use Rattle.counting.specs.Counting.{tick};
 ghost use Rattle.machine.specs.Memory.{largest};
-ghost use Rattle.machine.specs.Answers.{isAccepted};
+ghost use Rattle.machine.specs.Answers.{toldAccepted};
 ghost use Rattle.machine.specs.History.{counted};
 ghost use Rattle.file.specs.File.{eventAt, opening, writtenOf};
 ghost use Rattle.printed.specs.Listing.{turnsAfter, completed, progress, ended};
@@ -100,15 +101,15 @@ fn larger(a: u16, b: u16) -> u16
 }
 
 // Whether a call was accepted.
-fn accepted(answer: Answer) -> bool
-    ensures { λ yes. ⌜ yes ≡ isAccepted answer ⌝ }
+fn accepted(told: Told) -> bool
+    ensures { λ yes. ⌜ yes ≡ toldAccepted told ⌝ }
 {
-    match answer {
-        Answer::Done => true,
-        Answer::Seeks => true,
-        Answer::Holds(_) => true,
-        Answer::Freed(_) => true,
-        Answer::Refused(_) => false,
+    match told {
+        Told::Done => true,
+        Told::Seeks => true,
+        Told::Holds(_) => true,
+        Told::Freed(_) => true,
+        Told::Refused(_) => false,
     }
 }
 
@@ -129,7 +130,8 @@ fn turns_after(turns: [u16; 256], event: Event, answer: Answer) -> [u16; 256]
     requires { ⌜ ((p : ℕ) → getD turns p 0 < 65535) ⌝ }
     ensures { λ after. ⌜ after ≡ turnsAfter event answer turns ⌝ }
 {
-    if !accepted(answer) {
+    let told = answer.told;
+    if !accepted(told) {
         return turns;
     }
     let kind = event.kind;
@@ -155,15 +157,15 @@ fn turns_of(turns: [u16; 256], task: TaskId) -> u16
 }
 
 // The turns that a completed acquisition used; 0 where the call completes none.
-fn completed(answer: Answer, turns: u16) -> u16
-    ensures { λ n. ⌜ n ≡ completed answer turns ⌝ }
+fn completed(told: Told, turns: u16) -> u16
+    ensures { λ n. ⌜ n ≡ completed told turns ⌝ }
 {
-    match answer {
-        Answer::Done => 0,
-        Answer::Seeks => 0,
-        Answer::Holds(_) => turns,
-        Answer::Freed(_) => 0,
-        Answer::Refused(_) => 0,
+    match told {
+        Told::Done => 0,
+        Told::Seeks => 0,
+        Told::Holds(_) => turns,
+        Told::Freed(_) => 0,
+        Told::Refused(_) => 0,
     }
 }
 
@@ -240,7 +242,7 @@ fn advance(
     xs: &mut [u32],
     marks: &mut [u8],
 ) -> Standing
-    requires { ⌜ (s .n ≤ 256) × ((p : ℕ) → getD (at .turns) p 0 < 65535) × (at .at + 31 ≤ length (now room)) ⌝ }
+    requires { ⌜ (s .n ≤ 256) × ((p : ℕ) → getD (at .turns) p 0 < 65535) × (at .at + 56 ≤ length (now room)) ⌝ }
     ensures { λ to. ⌜ Advanced s position event at (lent (at .records) (now (xs .entry)) (now (marks .entry))) (now (room .entry)) to (lent (to .records) (now (xs .exit)) (now (marks .exit))) (now (room .exit)) ⌝ }
 {
     let before = at.records;
@@ -250,7 +252,8 @@ fn advance(
     let counts = at.turns;
     let task = event.task;
     let turns = turns_after(counts, event, answer);
-    let used = completed(answer, turns_of(turns, task));
+    let told = answer.told;
+    let used = completed(told, turns_of(turns, task));
     Standing {
         records: records,
         turns: turns,
@@ -269,7 +272,7 @@ fn run(
     xs: &mut [u32],
     marks: &mut [u8],
 ) -> usize
-    requires { ⌜ (opening (now file) ≡ Opening.Opened s count) × (lent (replicate 256 idle) (now xs) (now marks) ≡ largest) × (45 + 31 * count ≤ length (now room)) ⌝ }
+    requires { ⌜ (opening (now file) ≡ Opening.Opened s count) × (lent (replicate 256 idle) (now xs) (now marks) ≡ largest) × (45 + 56 * count ≤ length (now room)) ⌝ }
     ensures { λ to. ⌜ Puts (now (room .entry)) 0 (ended s (progress s (now (file .entry)) count)) to (now (room .exit)) ⌝ }
 {
     let mut standing = begin(s, room, xs, marks);
@@ -286,7 +289,7 @@ fn run(
 
 // The lines of an opened file.
 fn put_lines(file: &[u8], s: Settings, count: u16, room: &mut [u8]) -> usize
-    requires { ⌜ (opening (now file) ≡ Opening.Opened s count) × (45 + 31 * count ≤ length (now room)) ⌝ }
+    requires { ⌜ (opening (now file) ≡ Opening.Opened s count) × (45 + 56 * count ≤ length (now room)) ⌝ }
     ensures { λ to. ⌜ Puts (now (room .entry)) 0 (ended s (progress s (now (file .entry)) count)) to (now (room .exit)) ⌝ }
 {
     let mut xs = no_xs();
@@ -294,7 +297,7 @@ fn put_lines(file: &[u8], s: Settings, count: u16, room: &mut [u8]) -> usize
     run(file, s, count, room, &mut xs, &mut marks)
 }
 
-// Lists a schedule file: the text from the start of the room, and how long it is. 45 bytes and 31 for
+// Lists a schedule file: the text from the start of the room, and how long it is. 45 bytes and 56 for
 // each event are always enough; a shorter room is refused, and stays as it was.
 pub fn list(file: &[u8], room: &mut [u8]) -> Writing
     ensures { λ answer. ⌜ writtenOf answer (now (room .exit)) ≡ listed (now (file .entry)) (now (room .entry)) ⌝ }
@@ -308,7 +311,7 @@ pub fn list(file: &[u8], room: &mut [u8]) -> Writing
             Writing::Wrote(put_refused(room, why))
         }
         Opening::Opened { settings, count } => {
-            if room.len() < 45 + 31 * (count as usize) {
+            if room.len() < 45 + 56 * (count as usize) {
                 return Writing::Refused(Refusal::ShortRoom);
             }
             Writing::Wrote(put_lines(file, settings, count, room))

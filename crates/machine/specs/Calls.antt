@@ -1,13 +1,13 @@
--- 01, "Rules of the grid", and 02, P4: setup, ask, turn and release, from the memory before to the answer and the
+-- 01, "Rules of the grid", and 02, P4 and P6: setup, ask, turn and release, from the memory before to the answer and the
 -- memory after.
 use Prim.Native.Nat.{ℕ}
 use Rattle.machine.specs.Places.{blocks, nameNumber}
 use Rattle.machine.specs.Memory.{Memory, marksNeeded, stateOf, viewOf, withRecord, fill}
-use Rattle.machine.specs.{Turn.{access, value, store, next}, Refusals.{setupVerdict, verdict}}
+use Rattle.machine.specs.{Turn.{access, value, store, shownBy, next}, Refusals.{setupVerdict, verdict}, Answers.plain}
 use Rattle.machine.specs.declared.{Settings.Settings, Name.Name}
 use Rattle.machine.specs.declared.State.{State, the-variants.{Idle, Seeking, Holding}}
 use Rattle.machine.specs.declared.{Kind.{Kind, the-variants.{Ask, Turn, Release}}, Event.Event, Verdict.Verdict}
-use Rattle.machine.specs.declared.Answer.{Answer}
+use Rattle.machine.specs.declared.{Shown.Shown, Told.Told, Answer.Answer}
 
 pub record Outcome : Type 0 where
   pub answer : Answer
@@ -31,38 +31,42 @@ abbrev pub nameAt : Settings → ℕ → ℕ → Name
 nameAt s r c = record { 0 = nameNumber s r c }
 
 -- "seeks", or "holds" with the name
-abbrev pub standing : Settings → State → Answer
-standing s Idle = Answer.Seeks
-standing s (Seeking r c point) = Answer.Seeks
-standing s (Holding r c) = Answer.Holds (nameAt s r c)
+abbrev pub standing : Settings → State → Told
+standing s Idle = Told.Seeks
+standing s (Seeking r c point) = Told.Seeks
+standing s (Holding r c) = Told.Holds (nameAt s r c)
 
 -- the freed name
-abbrev pub freed : Settings → State → Answer
-freed s Idle = Answer.Seeks
-freed s (Seeking r c point) = Answer.Seeks
-freed s (Holding r c) = Answer.Freed (nameAt s r c)
+abbrev pub freed : Settings → State → Told
+freed s Idle = Told.Seeks
+freed s (Seeking r c point) = Told.Seeks
+freed s (Holding r c) = Told.Freed (nameAt s r c)
 
--- the answer of an accepted call, from the record before and the record after
-abbrev pub answerOf : Settings → Kind → State → State → Answer
-answerOf s Ask before after = standing s after
-answerOf s Turn before after = standing s after
-answerOf s Release before after = freed s before
+-- what an accepted call tells, from the record before and the record after
+abbrev pub toldOf : Settings → Kind → State → State → Told
+toldOf s Ask before after = standing s after
+toldOf s Turn before after = standing s after
+toldOf s Release before after = freed s before
 
 -- the next record of a task whose record says `state`, from the value that its access reads
 abbrev pub nextState : Settings → Kind → ℕ → State → Memory → State
 nextState s kind p state m = next s kind p state (value s (access s kind p state) m)
 
--- an accepted call: the register is read and written, and the next record put in place
+-- what the call's access shows: the access itself, with the value that it reads
+abbrev pub shownOf : Settings → Kind → ℕ → State → Memory → Shown
+shownOf s kind p state m = shownBy (access s kind p state) (value s (access s kind p state) m)
+
+-- an accepted call: the register is read or written, and the next record put in place
 abbrev pub accept : Settings → Kind → ℕ → State → Memory → Outcome
 accept s kind p state m = record {
-  answer = answerOf s kind state (nextState s kind p state m);
+  answer = record { told = toldOf s kind state (nextState s kind p state m); shown = shownOf s kind p state m };
   memory = withRecord p (record { state = nextState s kind p state m }) (store s (access s kind p state) m);
 }
 
 -- a refused call answers why, and changes nothing
 abbrev pub refuseOr : Verdict → Memory → Outcome → Outcome
 refuseOr Verdict.Accepted m outcome = outcome
-refuseOr (Verdict.Refused why) m outcome = record { answer = Answer.Refused why; memory = m }
+refuseOr (Verdict.Refused why) m outcome = record { answer = plain (Told.Refused why); memory = m }
 
 -- what the tests of a call say of a memory
 abbrev pub verdictOf : Settings → Event → Memory → Verdict
@@ -84,4 +88,4 @@ cleared s m = record {
 abbrev pub setup : Settings → Memory → Outcome
 setup s m =
     refuseOr (setupVerdict s (viewOf s (m .records) 0) m) m
-    (record { answer = Answer.Done; memory = cleared s m })
+    (record { answer = plain Told.Done; memory = cleared s m })

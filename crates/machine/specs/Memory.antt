@@ -5,6 +5,7 @@ use lib.{Dec.leb, ListN.{length, getD, set, replicate, drop}}
 use Rattle.counting.specs.Counting.{count, firstBad}
 use Rattle.machine.specs.{Settings.width, Places.blocks, Records.{idle, isOut, recordInRange}}
 use Rattle.machine.specs.declared.{Settings.Settings, State.State, Record.Record, View.View}
+use Rattle.machine.specs.declared.Register.{Register, the-variants.{X, Mark}}
 
 -- what the supervisor lends; a row may be longer than needed
 pub record Memory : Type 0 where
@@ -35,6 +36,15 @@ withX block value m = record { records = m .records; xs = set (m .xs) block valu
 
 abbrev pub withMark : ℕ → ℕ → Memory → Memory
 withMark index value m = record { records = m .records; xs = m .xs; marks = set (m .marks) index value }
+
+-- what a register has, and one register written
+abbrev pub content : Settings → Register → Memory → ℕ
+content s (X block) m = getD (m .xs) block 0
+content s (Mark block place) m = getD (m .marks) (markIndex s block place) 0
+
+abbrev pub put : Settings → Register → ℕ → Memory → Memory
+put s (X block) value m = withX block value m
+put s (Mark block place) value m = withMark (markIndex s block place) value m
 
 -- an X number is at most N, a mark 0 or 1
 abbrev pub xInRange : Settings → ℕ → Bool

@@ -2,25 +2,27 @@
 -- register it touches, makes that one access, and hands the value read to the record: `next` sees no memory, and
 -- `store` changes one element at the most. Statement numbers in brackets: [4.n] of Figure 4, mode 0; [5.n] of Figure 5,
 -- mode 1.
-use mathlib.Core.Bool.{cond}
+use mathlib.Core.Bool.{Bool, true, false, cond}
 use Prim.Native.Nat.{ℕ, _+_}
-use lib.{Dec.{eqb, leb}, ListN.getD}
-use Rattle.machine.specs.{Settings.{width, own}, Places.blockNumber, Memory.{Memory, markIndex, withX, withMark}}
+use lib.Dec.{eqb, leb}
+use Rattle.machine.specs.{Settings.{width, own}, Places.blockNumber, Memory.{Memory, content, put}}
 use Rattle.machine.specs.declared.{Settings.Settings, Direction.{Direction, the-variants.{Right, Down}}}
 use Rattle.machine.specs.declared.Point.{Point, the-variants.{WriteX, Scan, WriteMark, ReadX, Clear}}
 use Rattle.machine.specs.declared.{State.{State, the-variants.{Idle, Seeking, Holding}}, Record.Record}
-use Rattle.machine.specs.declared.Access.{Access, the-variants.{NoAccess, XRead, XWritten, MarkRead, MarkWritten}}
+use Rattle.machine.specs.declared.{Register.{Register, the-variants.{X, Mark}}, Op.{Op, the-variants.{Read, Write}}}
+use Rattle.machine.specs.declared.{Access.{Access, the-variants.{NoAccess, Touch}}, Letter.the-variants.{R, W}}
+use Rattle.machine.specs.declared.Shown.{Shown, the-variants.{Nothing, Touched}}
 use Rattle.machine.specs.declared.Kind.{Kind, the-variants.{Ask, Turn, Release}}
 
 -- ---- which register a call touches
 
 -- the access at a point of the block at (r, c), by task p
 abbrev pub pointAccess : Settings → ℕ → ℕ → ℕ → Point → Access
-pointAccess s p r c WriteX = XWritten (blockNumber s r c) (p + 1)  -- [4.0] [5.2]
-pointAccess s p r c (Scan h) = MarkRead (blockNumber s r c) h  -- [4.1] [5.3]
-pointAccess s p r c WriteMark = MarkWritten (blockNumber s r c) (own s p) 1  -- [4.2] [5.4]
-pointAccess s p r c ReadX = XRead (blockNumber s r c)  -- [4.3] [5.5]
-pointAccess s p r c (Clear direction) = MarkWritten (blockNumber s r c) (own s p) 0  -- [5.6]
+pointAccess s p r c WriteX = Touch (X (blockNumber s r c)) (Write (p + 1))  -- [4.0] [5.2]
+pointAccess s p r c (Scan h) = Touch (Mark (blockNumber s r c) h) Read  -- [4.1] [5.3]
+pointAccess s p r c WriteMark = Touch (Mark (blockNumber s r c) (own s p)) (Write 1)  -- [4.2] [5.4]
+pointAccess s p r c ReadX = Touch (X (blockNumber s r c)) Read  -- [4.3] [5.5]
+pointAccess s p r c (Clear direction) = Touch (Mark (blockNumber s r c) (own s p)) (Write 0)  -- [5.6]
 
 -- a turn makes the access of its point; a task that does not seek has none to make
 abbrev pub turnAccess : Settings → ℕ → State → Access
@@ -32,7 +34,8 @@ turnAccess s p (Holding r c) = NoAccess
 abbrev pub releaseAccess : Settings → ℕ → State → Access
 releaseAccess s p Idle = NoAccess
 releaseAccess s p (Seeking r c point) = NoAccess
-releaseAccess s p (Holding r c) = cond (leb (r + c + 2) (s .k)) (MarkWritten (blockNumber s r c) (own s p) 0) NoAccess
+releaseAccess s p (Holding r c) =
+    cond (leb (r + c + 2) (s .k)) (Touch (Mark (blockNumber s r c) (own s p)) (Write 0)) NoAccess
 
 abbrev pub access : Settings → Kind → ℕ → State → Access
 access s Ask p state = NoAccess
@@ -41,21 +44,42 @@ access s Release p state = releaseAccess s p state
 
 -- ---- the one access
 
--- what a read sees; 0 where nothing is read
+-- an operation reads, or it writes
+abbrev pub opReads : Op → Bool
+opReads Read = true
+opReads (Write v) = false
+
+abbrev pub opWrites : Op → Bool
+opWrites Read = false
+opWrites (Write v) = true
+
+-- what an operation sees of a register with the value `old`, 0 where it does not read; and what it leaves there
+abbrev pub seen : Op → ℕ → ℕ
+seen Read old = old
+seen (Write v) old = 0
+
+abbrev pub left : Op → ℕ → ℕ
+left Read old = old
+left (Write v) old = v
+
+-- what an access sees; 0 where nothing is read
 abbrev pub value : Settings → Access → Memory → ℕ
 value s NoAccess m = 0
-value s (XRead block) m = getD (m .xs) block 0
-value s (XWritten block v) m = 0
-value s (MarkRead block place) m = getD (m .marks) (markIndex s block place) 0
-value s (MarkWritten block place v) m = 0
+value s (Touch register op) m = seen op (content s register m)
 
 -- the one register written, or none
 abbrev pub store : Settings → Access → Memory → Memory
 store s NoAccess m = m
-store s (XRead block) m = m
-store s (XWritten block v) m = withX block v m
-store s (MarkRead block place) m = m
-store s (MarkWritten block place v) m = withMark (markIndex s block place) v m
+store s (Touch register op) m = cond (opWrites op) (put s register (left op (content s register m)) m) m
+
+-- what an answer shows of an access that saw v: the value read, or the value written
+abbrev pub opShown : Op → Register → ℕ → Shown
+opShown Read register v = Touched R register v
+opShown (Write w) register v = Touched W register w
+
+abbrev pub shownBy : Access → ℕ → Shown
+shownBy NoAccess v = Nothing
+shownBy (Touch register op) v = opShown op register v
 
 -- ---- the next record
 

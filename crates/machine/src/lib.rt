@@ -51,25 +51,38 @@ pub struct Record {
     pub state: State,
 }
 
-// The one register that a call touches, if any: an X number by its block, a mark by its block and
-// its place among the block's marks, and the value where one is written.
+// A register: the X number of a block, or a mark, by its block and its place among the block's marks.
+pub enum Register {
+    X { block: u16 },
+    Mark { block: u16, place: u16 },
+}
+
+// What an access does with its register.
+pub enum Op {
+    Read,
+    Write(u32),
+}
+
+// The one register that a call touches, if any, and what it does with it.
 pub enum Access {
     NoAccess,
-    XRead {
-        block: usize,
-    },
-    XWritten {
-        block: usize,
+    Touch { register: Register, op: Op },
+}
+
+// How the probe on the register bus names an access: read or written.
+pub enum Letter {
+    R,
+    W,
+}
+
+// What an answer shows of the call's access: nothing where no register was touched, or the register
+// with the value read from it or written to it.
+pub enum Shown {
+    Nothing,
+    Touched {
+        letter: Letter,
+        register: Register,
         value: u32,
-    },
-    MarkRead {
-        block: usize,
-        place: usize,
-    },
-    MarkWritten {
-        block: usize,
-        place: usize,
-        value: u8,
     },
 }
 
@@ -131,13 +144,19 @@ pub enum Verdict {
     Refused(Refusal),
 }
 
-// What setup, ask, turn and release answer.
-pub enum Answer {
+// What setup, ask, turn and release tell.
+pub enum Told {
     Done,
     Seeks,
     Holds(Name),
     Freed(Name),
     Refused(Refusal),
+}
+
+// What they answer: what they tell and, of an accepted turn or release, the access that it made.
+pub struct Answer {
+    pub told: Told,
+    pub shown: Shown,
 }
 
 // What opening a schedule file answers: its settings and its count of events.

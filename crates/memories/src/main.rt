@@ -10,13 +10,17 @@ use machine::Answer;
 use machine::Direction;
 use machine::Event;
 use machine::Kind;
+use machine::Letter;
 use machine::Point;
 use machine::Record;
 use machine::Refusal;
+use machine::Register;
 use machine::Row;
 use machine::Settings;
+use machine::Shown;
 use machine::State;
 use machine::TaskId;
+use machine::Told;
 
 // A case but for its rows: what is called (0 ask, 1 turn, 2 release, 3 setup), the settings, the task,
 // and how many records are lent.
@@ -289,20 +293,70 @@ fn say_refusal(why: Refusal) {
     }
 }
 
-fn say_answer(answer: Answer) {
+fn say_register(register: Register) {
+    match register {
+        Register::X { block } => {
+            say(b"X ");
+            say_number(block as u64);
+            say(b" 0");
+        }
+        Register::Mark { block, place } => {
+            say(b"M ");
+            say_number(block as u64);
+            say(b" ");
+            say_number(place as u64);
+        }
+    }
+}
+
+// The five fields of an access, or none.
+fn say_shown(shown: Shown) {
+    match shown {
+        Shown::Nothing => say(b" none"),
+        Shown::Touched {
+            letter,
+            register,
+            value,
+        } => {
+            match letter {
+                Letter::R => say(b" R "),
+                Letter::W => say(b" W "),
+            }
+            say_register(register);
+            say(b" ");
+            say_number(value as u64);
+        }
+    }
+}
+
+// A turn and a release show their access, an ask does not.
+fn say_fields(code: u8, shown: Shown) {
+    if code != 0 {
+        say_shown(shown);
+    }
+}
+
+fn say_answer(code: u8, answer: Answer) {
+    let told = answer.told;
+    let shown = answer.shown;
     say(b"answer ");
-    match answer {
-        Answer::Done => say(b"done"),
-        Answer::Seeks => say(b"seeks"),
-        Answer::Holds(name) => {
+    match told {
+        Told::Done => say(b"done"),
+        Told::Seeks => {
+            say(b"seeks");
+            say_fields(code, shown);
+        }
+        Told::Holds(name) => {
             say(b"holds ");
             say_number(name.0 as u64);
+            say_fields(code, shown);
         }
-        Answer::Freed(name) => {
+        Told::Freed(name) => {
             say(b"freed ");
             say_number(name.0 as u64);
+            say_fields(code, shown);
         }
-        Answer::Refused(why) => say_refusal(why),
+        Told::Refused(why) => say_refusal(why),
     }
     say(b"\n");
 }
@@ -393,7 +447,7 @@ fn serve(case: Case, records: [Record; 256], xs: &mut [u32], marks: &mut [u8]) {
         case.task,
     );
     let answer = made.answer;
-    say_answer(answer);
+    say_answer(case.code, answer);
     let after = made.records;
     say_records(after, case.count);
     say_xs(xs);

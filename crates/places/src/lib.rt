@@ -113,11 +113,11 @@ fn place_number(s: Settings, less: u8, r: u8, c: u8) -> usize
 }
 
 // The number of the block at (r, c): the blocks are the triangle of side k - 1.
-pub fn block_number(s: Settings, r: u8, c: u8) -> usize
+pub fn block_number(s: Settings, r: u8, c: u8) -> u16
     requires { ⌜ T (permitted s) × (r + c + 2 ≤ s .k) ⌝ }
     ensures { λ number. ⌜ number ≡ blockNumber s r c ⌝ }
 {
-    place_number(s, 1, r, c)
+    place_number(s, 1, r, c) as u16
 }
 
 // The number of the place at (r, c), counted diagonal after diagonal.
@@ -141,20 +141,20 @@ pub fn name_at(s: Settings, r: u8, c: u8) -> Name
 }
 
 // Where a mark of a block stands in the row of marks, block after block.
-pub fn mark_index(s: Settings, block: usize, place: usize) -> usize
+pub fn mark_index(s: Settings, block: u16, place: u16) -> usize
     requires { ⌜ T (permitted s) × ((block < blocks s) × (place < width s)) ⌝ }
     ensures { λ index. ⌜ index ≡ markIndex s block place ⌝ }
 {
     let width = s.width() as usize;
-    block * width + place
+    block as usize * width + place as usize
 }
 
 // Which of its block's marks is the task's own: the one mark one-time, its own long-lived.
-pub fn own(s: Settings, task: TaskId) -> usize
+pub fn own(s: Settings, task: TaskId) -> u16
     ensures { λ place. ⌜ place ≡ own s (task .0) ⌝ }
 {
     if s.mode == 0 {
         return 0;
     }
-    task.0 as usize
+    task.0
 }

@@ -7,7 +7,7 @@ use lib.Dec.{T, eqb}
 use borrow.Author.Tests.{le-leb, lt-leb}
 use Rattle.grid.specs.Triangle.{half, placeNumber, diagonalNumber}
 use Rattle.counting.{specs.Counting.{count, firstBad}, proofs.Tested.misses}
-use Rattle.machine.specs.{Memory.Memory, Turn.arrive, Answers.isAccepted}
+use Rattle.machine.specs.{Memory.Memory, Turn.arrive, Answers.{toldAccepted, isAccepted, plain}}
 use Rattle.machine.specs.Calls.{call, setup, verdictOf, standing, ask, release}
 use Rattle.machine.specs.promises.{Ranges.WithinLimits, Demands.SetUp}
 use Rattle.machine.specs.declared.{Settings.Settings, State.{State, the-variants.{Idle, Seeking, Holding}}}
@@ -79,7 +79,7 @@ cond-same false n = refl
 no-turns : NoTurns
 unfolding half placeNumber diagonalNumber
 no-turns s lent ok one p l = (
-  rw (fresh-ask s lent ok p l, one) (ap named (cond-same (eqb (s .version) 1) 0)),
+  rw (fresh-ask s lent ok p l, one) (ap (λ (n : ℕ). plain (named n)) (cond-same (eqb (s .version) 1) 0)),
   cond-same (isAccepted (call s (ask p) (setup s lent .memory) .answer) && eqb p p) 0,
 )
 
@@ -92,7 +92,7 @@ last-identifier s lent ok all = (
   rw (fresh-ask s lent ok 255 (omega arith)) (standing-accepted s (arrive s 0 0)),
 )
   where
-    standing-accepted : (t : Settings) (state : State) → T (isAccepted (standing t state))
+    standing-accepted : (t : Settings) (state : State) → T (toldAccepted (standing t state))
     standing-accepted t Idle = tt
     standing-accepted t (Seeking r c point) = tt
     standing-accepted t (Holding r c) = tt

@@ -10,11 +10,11 @@ use lib.Seq.{getD-set-same, getD-set-other}
 use borrow.Author.Tests.{eqb-true, eqb-false, lt-ltb, le-ltb}
 use Rattle.machine.specs.{Records.{idle, isHolding, isOut}, Memory.{Memory, stateOf, outOf, largest}}
 use Rattle.machine.specs.Answers.{isAccepted}
-use Rattle.machine.specs.{Calls.{Outcome, nameAt, answerOf, call, setup}, History.{Answered, counted, turnsOf}}
+use Rattle.machine.specs.{Calls.{Outcome, nameAt, toldOf, call, setup}, History.{Answered, counted, turnsOf}}
 use Rattle.machine.specs.promises.Refusing.{tasksOut}
 use Rattle.machine.specs.promises.{Demands.{memoryAfter, historyOf, used, HoldsSome, bound}, OneAccess.AcceptedIn}
 use Rattle.machine.specs.declared.{Settings.Settings, Name.Name, State.{State, the-variants.{Idle, Seeking, Holding}}}
-use Rattle.machine.specs.declared.{Kind.{Kind, the-variants.{Ask, Turn, Release}}, Event.Event, Answer.Answer}
+use Rattle.machine.specs.declared.{Kind.{Kind, the-variants.{Ask, Turn, Release}}, Event.Event, Told.Told, Answer.Answer}
 use Rattle.machine.specs.declared.{Record.Record, Opening.Opening}
 use Rattle.machine.proofs.refusals.{Lines.tasks-out, Passing.{passed, by-the-rules}}
 use Rattle.machine.proofs.calls.{SettingUp.setup-clears, Effects.only-the-register-written-changes}
@@ -223,52 +223,53 @@ module _ (s : Settings) (file : List ℕ) where
   TurnsMost n a = Greatest n (Completes s file) (turnsAt s file) a
 
   -- an answer other than "holds" completes nothing, and 0 is added to what MOST is the greatest of
-  not-completed : (n a : ℕ) (answer : Answer) → answerAt s file n ≡ answer → completed answer 1 ≡ 0 → TurnsMost n a
+  not-completed : (n a : ℕ) (told : Told) → answerAt s file n .told ≡ told → completed told 1 ≡ 0 → TurnsMost n a
       → TurnsMost (suc n) (max a 0)
-  not-completed n a answer e none g =
+  not-completed n a told e none g =
       rw (max-zero a) (one-skipped (Completes s file) (turnsAt s file)
-      (λ c. let one = ap (λ (other : Answer). completed other 1) (sym e ∙ c .1) in omega arith) g)
+      (λ c. let one = ap (λ (other : Told). completed other 1) (sym e ∙ c .1) in omega arith) g)
 
-  most-more : (n a : ℕ) (answer : Answer) → answerAt s file n ≡ answer → TurnsMost n a
-      → TurnsMost (suc n) (max a (completed answer (getD (standing (suc n) .turns) (taskAt file n .0) 0)))
-  most-more n a Answer.Done e g = not-completed n a Answer.Done e refl g
-  most-more n a Answer.Seeks e g = not-completed n a Answer.Seeks e refl g
-  most-more n a (Answer.Holds name) e g =
+  most-more : (n a : ℕ) (told : Told) → answerAt s file n .told ≡ told → TurnsMost n a
+      → TurnsMost (suc n) (max a (completed told (getD (standing (suc n) .turns) (taskAt file n .0) 0)))
+  most-more n a Told.Done e g = not-completed n a Told.Done e refl g
+  most-more n a Told.Seeks e g = not-completed n a Told.Seeks e refl g
+  most-more n a (Told.Holds name) e g =
       rw (completed-turns n (name, e)) (one-counted (Completes s file) (turnsAt s file) (name, e) g)
-  most-more n a (Answer.Freed name) e g = not-completed n a (Answer.Freed name) e refl g
-  most-more n a (Answer.Refused why) e g = not-completed n a (Answer.Refused why) e refl g
+  most-more n a (Told.Freed name) e g = not-completed n a (Told.Freed name) e refl g
+  most-more n a (Told.Refused why) e g = not-completed n a (Told.Refused why) e refl g
 
   most-kept : (n : ℕ) → TurnsMost n (standing n .most)
   most-kept zero = none-yet (Completes s file) (turnsAt s file)
-  most-kept (suc n) = most-more n (standing n .most) (answered n) (sym (answer-kept n)) (most-kept n)
+  most-kept (suc n) = most-more n (standing n .most) (answered n .told)
+      (ap (λ (answer : Answer). answer .told) (sym (answer-kept n))) (most-kept n)
 
 -- ---- MOST within the bound
 
 module _ (s : Settings) (name : Name) where
-  not-held : (answer : Answer) → completed answer 1 ≡ 0 → answer ≡ Answer.Holds name → ⊥
-  not-held answer none e = let one = ap (λ (other : Answer). completed other 1) e in omega arith
+  not-held : (told : Told) → completed told 1 ≡ 0 → told ≡ Told.Holds name → ⊥
+  not-held told none e = let one = ap (λ (other : Told). completed other 1) e in omega arith
 
   -- who is answered that it holds does so in the record that the call leaves
-  standing-held : (after : State) → calls.standing s after ≡ Answer.Holds name → T (isHolding after)
-  standing-held Idle e = absurd (not-held Answer.Seeks refl e)
-  standing-held (Seeking r c point) e = absurd (not-held Answer.Seeks refl e)
+  standing-held : (after : State) → calls.standing s after ≡ Told.Holds name → T (isHolding after)
+  standing-held Idle e = absurd (not-held Told.Seeks refl e)
+  standing-held (Seeking r c point) e = absurd (not-held Told.Seeks refl e)
   standing-held (Holding r c) e = tt
 
-  answer-held : (kind : Kind) (before after : State) → answerOf s kind before after ≡ Answer.Holds name
+  answer-held : (kind : Kind) (before after : State) → toldOf s kind before after ≡ Told.Holds name
       → T (isHolding after)
   answer-held Ask before after e = standing-held after e
   answer-held Turn before after e = standing-held after e
-  answer-held Release Idle after e = absurd (not-held Answer.Seeks refl e)
-  answer-held Release (Seeking r c point) after e = absurd (not-held Answer.Seeks refl e)
-  answer-held Release (Holding r c) after e = absurd (not-held (Answer.Freed (nameAt s r c)) refl e)
+  answer-held Release Idle after e = absurd (not-held Told.Seeks refl e)
+  answer-held Release (Seeking r c point) after e = absurd (not-held Told.Seeks refl e)
+  answer-held Release (Holding r c) after e = absurd (not-held (Told.Freed (nameAt s r c)) refl e)
 
-  held-after : (event : Event) (m : Memory) → call s event m .answer ≡ Answer.Holds name
+  held-after : (event : Event) (m : Memory) → call s event m .answer .told ≡ Told.Holds name
       → HoldsSome (call s event m .memory) (event .task .0)
   held-after event m e =
       let accepted : AcceptedIn s event m = rw e tt in
       rw (only-the-register-written-changes s event m accepted .own)
       (answer-held (event .kind) (stateOf m (event .task .0)) _
-      (sym (ap (λ (o : Outcome). o .answer) (by-the-rules s event m accepted)) ∙ e))
+      (sym (ap (λ (o : Outcome). o .answer .told) (by-the-rules s event m accepted)) ∙ e))
 
 -- an acquisition that is completed took no more turns than demand 3 allows
 completed-within : (s : Settings) (file : List ℕ) (i : ℕ) → Completes s file i → turnsAt s file i ≤ bound s

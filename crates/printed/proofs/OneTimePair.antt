@@ -7,12 +7,12 @@ use native.Mathlib.Omega.{arith}
 use lib.{Dec.{T, eqb}, ListN.{getD, set}}
 use Rattle.machine.specs.{Settings.{width, own}, Places.{blockNumber, nameNumber}, Records.isOut}
 use Rattle.machine.specs.Memory.{Memory, markIndex, stateOf, outOf}
-use Rattle.machine.specs.{Calls.{Outcome, eventOf, answerOf, nextState, accept, setup}, History.history}
+use Rattle.machine.specs.{Calls.{Outcome, eventOf, toldOf, nextState, accept, setup}, History.history}
 use Rattle.machine.specs.promises.{Demands.SetUp, Ranges.WithinLimits}
 use Rattle.machine.specs.declared.{Settings.Settings, Direction.the-variants.Right}
 use Rattle.machine.specs.declared.Point.the-variants.{WriteX, Scan, WriteMark, ReadX}
 use Rattle.machine.specs.declared.State.{State, the-variants.{Idle, Seeking, Holding}}
-use Rattle.machine.specs.declared.{Kind.{Kind, the-variants.{Ask, Turn}}, Event.Event, Answer.Answer}
+use Rattle.machine.specs.declared.{Kind.{Kind, the-variants.{Ask, Turn}}, Event.Event, Told.Told}
 use Rattle.machine.proofs.calls.Fresh.{setup-within, fresh-idle, fresh-none-out}
 use Rattle.machine.proofs.bridge.Turning.{scan-marked, scan-done, reads-own}
 use Rattle.machine.proofs.bridge.Arriving.{arrive-edge, arrive-block, leave-at-once}
@@ -20,26 +20,26 @@ use Rattle.machine.proofs.bridge.AsGrid.{x-on-block, mark-on-block, x-put, mark
 use Rattle.machine.proofs.bridge.Histories.{fresh-in-order, fresh-unmarked}
 use Rattle.machine.proofs.histories.Laps.{Took, turn-took, ask-took}
 use Rattle.grid.specs.Triangle.{half, placeNumber, diagonalNumber}
-use Rattle.printed.specs.Edges.{answersIn, acquires, servedAt, OneTimePair}
+use Rattle.printed.specs.Edges.{toldIn, acquires, servedAt, OneTimePair}
 use Rattle.counting.proofs.Counting.{count-but-one}
 
--- what the calls are answered, from m on
-record Heard (s : Settings) (events : List Event) (m : Memory) (answers : List Answer) : Type 0 where
-  are : answersIn (history s events m) ≡ answers
+-- what the calls are told, from m on
+record Heard (s : Settings) (events : List Event) (m : Memory) (told : List Told) : Type 0 where
+  are : toldIn (history s events m) ≡ told
 
 heard-nothing : {s : Settings} {m : Memory} → Heard s [] m []
 heard-nothing = record { are = refl }
 
 -- an accepted call that leaves its task at `to`, and the calls after it
 heard : {s : Settings} {fair : WithinLimits s} {kind : Kind} {p : ℕ} {state : State} {m : Memory}
-    {events : List Event} {rest : List Answer}
+    {events : List Event} {rest : List Told}
     (to : State) → Took s fair kind p state m → nextState s kind p state m ≡ to
     → Heard s events (accept s kind p state m .memory) rest
-    → Heard s (eventOf kind p ∷ events) m (answerOf s kind state to ∷ rest)
+    → Heard s (eventOf kind p ∷ events) m (toldOf s kind state to ∷ rest)
 heard {s = s} {kind = kind} {p = p} {state = state} {m = m} {events = events} {rest = rest} to took e more = record {
-  are = ap (λ (o : Outcome). o .answer ∷ answersIn (history s events (o .memory))) (took .does)
-      ∙ ap (λ (l : List Answer). accept s kind p state m .answer ∷ l) (more .are)
-      ∙ ap (λ (z : State). answerOf s kind state z ∷ rest) e;
+  are = ap (λ (o : Outcome). o .answer .told ∷ toldIn (history s events (o .memory))) (took .does)
+      ∙ ap (λ (l : List Told). accept s kind p state m .answer .told ∷ l) (more .are)
+      ∙ ap (λ (z : State). toldOf s kind state z ∷ rest) e;
 }
 
 -- with k = 2 the names at (0, 0) and (0, 1) are 0 and 1

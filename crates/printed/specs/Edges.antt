@@ -1,15 +1,18 @@
 -- 01, "Both sides of each edge": the nine starred lines and both sides of the limits, as one statement, with the figures
--- that 02 names (P2 to P4). A run begins with setup of a lent memory. Where a line of 01 leaves N, k, mode or task open
+-- that 02 names (P2 to P4, P6). A run begins with setup of a lent memory. Where a line of 01 leaves N, k, mode or task open
 -- it is stated for all that are permitted; the lines that fix N and k and follow a run of turns are stated on the largest
 -- memory: setup clears what is needed, and by `SurplusNeverBears` the rest changes no answer (docs/DECISIONS.md).
 use mathlib.Core.{Path._≡_, Logic._⊎_, List.{List, [], _∷_, _++_, map}}
 use Prim.Native.Nat.{ℕ, _+_, _≤_, _<_}
 use lib.Dec.{T}
-use Rattle.machine.specs.{Places.nameNumber, Memory.{Memory, largest}, Answers.{said, isAccepted}}
+use Rattle.machine.specs.{Places.nameNumber, Memory.{Memory, largest}, Answers.{said, isAccepted, plain}}
 use Rattle.machine.specs.{Calls.{call, setup, ask, turn, release}, History.{Answered, turns}}
 use Rattle.machine.specs.promises.Refusing.{NoneHolds, lentLines, rangeLines}
 use Rattle.machine.specs.promises.Demands.{SetUp, memoryAfter, historyOf, used, bound}
-use Rattle.machine.specs.declared.{Settings.Settings, Event.Event, Answer.{Answer, the-variants.{Seeks, Holds, Freed}}}
+use Rattle.machine.specs.declared.{Settings.Settings, Event.Event, Answer.Answer}
+use Rattle.machine.specs.declared.Told.{Told, the-variants.{Done, Seeks, Holds, Freed}}
+use Rattle.machine.specs.declared.{Register.the-variants.Mark, Letter.the-variants.W}
+use Rattle.machine.specs.declared.Shown.the-variants.{Touched}
 use Rattle.text.specs.Decimal.{bytesOf}
 use Rattle.printed.specs.{EndLine.eventsOf, Listing.listing}
 
@@ -21,28 +24,28 @@ settings mode n k version = record { mode = mode; n = n; k = k; version = versio
 abbrev pub BothVersions : (ℕ → Type 0) → Type 0
 BothVersions Line = Line 1 × Line 2
 
-abbrev pub named : ℕ → Answer
+abbrev pub named : ℕ → Told
 named n = Holds (record { 0 = n })
 
--- the answers of calls
-abbrev pub answersIn : List Answered → List Answer
-answersIn = map (λ (done : Answered). done .answer)
+-- what calls are told
+abbrev pub toldIn : List Answered → List Told
+toldIn = map (λ (done : Answered). done .answer .told)
 
--- what a run of calls is answered, on the largest lent memory
-abbrev pub answers : Settings → List Event → List Answer
-answers s events = answersIn (historyOf s largest events)
+-- what a run of calls is told, on the largest lent memory
+abbrev pub told : Settings → List Event → List Told
+told s events = toldIn (historyOf s largest events)
 
 -- a task asks and takes so many turns
 abbrev pub acquires : ℕ → ℕ → List Event
 acquires p count = ask p ∷ turns count p
 
 -- so many times "seeks"
-abbrev pub seeksFor : ℕ → List Answer
+abbrev pub seeksFor : ℕ → List Told
 seeksFor ℕ.zero = []
 seeksFor (ℕ.suc count) = Seeks ∷ seeksFor count
 
 -- a task is told that it seeks by its ask and by all of so many turns but the last, which gives it the name
-abbrev pub servedAt : ℕ → ℕ → List Answer
+abbrev pub servedAt : ℕ → ℕ → List Told
 servedAt count name = seeksFor count ++ (named name ∷ [])
 
 -- an answer is the refusal of this number
@@ -53,7 +56,7 @@ Refuses n answer = said answer .number ≡ n
 abbrev pub lastOf : Settings → List Event → Event → Answer
 lastOf s events event = call s event (memoryAfter s largest events) .answer
 
--- 01's sixteen events, and its listing
+-- 01's sixteen events, and its listing with the fields of 02, P6
 abbrev pub sample : ℕ → List ℕ
 sample version =
     0x47 ∷ 0x52 ∷ 0x53 ∷ version ∷ 0x00 ∷ 0x01 ∷ 0x02 ∷ 0x00 ∷ 0x02 ∷ 0x10 ∷ 0x00
@@ -66,10 +69,11 @@ sample version =
 
 abbrev pub sampleText : List ℕ
 sampleText =
-    bytesOf "grid 1 2 2\n0 ask 0 seeks\n1 ask 1 seeks\n2 turn 0 seeks\n3 turn 1 seeks\n"
-    ++ (bytesOf "4 turn 0 seeks\n5 turn 0 seeks\n6 turn 0 seeks\n7 turn 0 seeks\n8 turn 0 holds 2\n"
-    ++ (bytesOf "9 turn 1 seeks\n10 turn 1 seeks\n11 turn 1 seeks\n12 turn 1 holds 0\n"
-    ++ bytesOf "13 free 0 freed 2\n14 turn 0 refused 15\n15 free 1 freed 0\nend 0 2 6\n"))
+    bytesOf "grid 1 2 2\n0 ask 0 seeks\n1 ask 1 seeks\n2 turn 0 seeks W X 0 0 1\n3 turn 1 seeks W X 0 0 2\n"
+    ++ (bytesOf "4 turn 0 seeks R M 0 0 0\n5 turn 0 seeks R M 0 1 0\n6 turn 0 seeks W M 0 0 1\n"
+    ++ (bytesOf "7 turn 0 seeks R X 0 0 2\n8 turn 0 holds 2 W M 0 0 0\n9 turn 1 seeks R M 0 0 0\n"
+    ++ (bytesOf "10 turn 1 seeks R M 0 1 0\n11 turn 1 seeks W M 0 1 1\n12 turn 1 holds 0 R X 0 0 2\n"
+    ++ bytesOf "13 free 0 freed 2 none\n14 turn 0 refused 15\n15 free 1 freed 0 W M 0 1 0\nend 0 2 6\n")))
 
 -- k = 5: places (0,0), (0,4), (1,0), (2,2), (4,0) have names 0, 4, 5, 11, 14
 abbrev pub FiveNames : Type 0
@@ -89,26 +93,26 @@ FiveByDiagonal =
 abbrev pub NoTurns : Type 0
 NoTurns =
     (s : Settings) (lent : Memory) → SetUp s lent → s .k ≡ 1 → (p : ℕ) → p < s .n
-    → (call s (ask p) (setup s lent .memory) .answer ≡ named 0) × (used s lent (ask p ∷ []) p ≡ 0)
+    → (call s (ask p) (setup s lent .memory) .answer ≡ plain (named 0)) × (used s lent (ask p ∷ []) p ≡ 0)
 
 -- Lone task, mode 1, N = 2, k = 2: name 0 after 5 turns (N+3)
 abbrev pub LoneTask : Type 0
 LoneTask = BothVersions (λ version.
-    (answers (settings 1 2 2 version) (acquires 0 5) ≡ servedAt 5 0)
-    × (answers (settings 1 2 2 version) (acquires 1 5) ≡ servedAt 5 0))
+    (told (settings 1 2 2 version) (acquires 0 5) ≡ servedAt 5 0)
+    × (told (settings 1 2 2 version) (acquires 1 5) ≡ servedAt 5 0))
 
 -- Then the other task: task 1 behind holder 0 gets name 1 in 3 turns; task 0 behind holder 1 in 4
 abbrev pub TheOtherTask : Type 0
 TheOtherTask = BothVersions (λ version.
-    (answers (settings 1 2 2 version) (acquires 0 5 ++ acquires 1 3) ≡ servedAt 5 0 ++ servedAt 3 1)
-    × (answers (settings 1 2 2 version) (acquires 1 5 ++ acquires 0 4) ≡ servedAt 5 0 ++ servedAt 4 1))
+    (told (settings 1 2 2 version) (acquires 0 5 ++ acquires 1 3) ≡ servedAt 5 0 ++ servedAt 3 1)
+    × (told (settings 1 2 2 version) (acquires 1 5 ++ acquires 0 4) ≡ servedAt 5 0 ++ servedAt 4 1))
 
 -- Mode 0, k = 2: first task name 0 in 4 turns, a later one name 1 in 2
 abbrev pub OneTimePair : Type 0
 OneTimePair =
     (s : Settings) (lent : Memory) → SetUp s lent → s .mode ≡ 0 → s .k ≡ 2 → (p q : ℕ) → p < s .n → q < s .n
     → (q ≡ p → ⊥)
-    → answersIn (historyOf s lent (acquires p 4 ++ acquires q 2)) ≡ servedAt 4 0 ++ servedAt 2 1
+    → toldIn (historyOf s lent (acquires p 4 ++ acquires q 2)) ≡ servedAt 4 0 ++ servedAt 2 1
 
 -- The listing above, whose task 0 uses 6 turns, the bound for N = 2, k = 2
 abbrev pub TheListing : Type 0
@@ -134,7 +138,7 @@ abbrev pub SetupAgain : Type 0
 SetupAgain = BothVersions (λ version.
     Refuses 18 (setup (settings 1 2 2 version) (memoryAfter (settings 1 2 2 version) largest (ask 0 ∷ [])) .answer)
     × (setup (settings 1 2 2 version)
-    (memoryAfter (settings 1 2 2 version) largest (acquires 0 5 ++ (release 0 ∷ []))) .answer ≡ Answer.Done))
+    (memoryAfter (settings 1 2 2 version) largest (acquires 0 5 ++ (release 0 ∷ []))) .answer ≡ plain Done))
 
 -- Mode 1, N = 3, k = 2, two out, the third task's ask: 7. After one is freed: accepted. The two are both at their
 -- start, or p holds, or both hold; either is freed. Behind the holder p the other needs p + 3 turns: write X, scan to
@@ -144,12 +148,13 @@ ThirdTask p q r =
     let both-hold : List Event = ask p ∷ ask q ∷ (turns 6 p ++ turns (p + 3) q) in
     Refuses 7 (lastOf (settings 1 3 2 1) (ask p ∷ ask q ∷ []) (ask r))
     × Refuses 7 (lastOf (settings 1 3 2 1) (ask p ∷ ask q ∷ turns 6 p) (ask r))
-    × (lastOf (settings 1 3 2 1) (ask p ∷ ask q ∷ (turns 6 p ++ (release p ∷ []))) (ask r) ≡ Seeks)
+    × (lastOf (settings 1 3 2 1) (ask p ∷ ask q ∷ (turns 6 p ++ (release p ∷ []))) (ask r) ≡ plain Seeks)
     × Refuses 7 (lastOf (settings 1 3 2 1) both-hold (ask r))
-    × (lastOf (settings 1 3 2 1) both-hold (release p) ≡ Freed (record { 0 = 0 }))
-    × (lastOf (settings 1 3 2 1) both-hold (release q) ≡ Freed (record { 0 = 1 }))
-    × (lastOf (settings 1 3 2 1) (both-hold ++ (release p ∷ [])) (ask r) ≡ Seeks)
-    × (lastOf (settings 1 3 2 1) (both-hold ++ (release q ∷ [])) (ask r) ≡ Seeks)
+    × (lastOf (settings 1 3 2 1) both-hold (release p)
+    ≡ record { told = Freed (record { 0 = 0 }); shown = Touched W (Mark 0 p) 0 })
+    × (lastOf (settings 1 3 2 1) both-hold (release q) ≡ plain (Freed (record { 0 = 1 })))
+    × (lastOf (settings 1 3 2 1) (both-hold ++ (release p ∷ [])) (ask r) ≡ plain Seeks)
+    × (lastOf (settings 1 3 2 1) (both-hold ++ (release q ∷ [])) (ask r) ≡ plain Seeks)
 
 abbrev pub TwoOut : Type 0
 TwoOut = ThirdTask 0 1 2 × ThirdTask 0 2 1 × ThirdTask 1 0 2 × ThirdTask 1 2 0 × ThirdTask 2 0 1 × ThirdTask 2 1 0

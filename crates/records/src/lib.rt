@@ -1,22 +1,22 @@
 // One task's record, by value: where the task stands, which register its next call touches, the
-// record after the call, and what the call answers.
+// record after the call, and what the call tells.
 
 use accesses::release_access;
 use accesses::turn_access;
 use machine::Access;
-use machine::Answer;
 use machine::Kind;
 use machine::Record;
 use machine::Settings;
 use machine::State;
 use machine::TaskId;
+use machine::Told;
 use places::name_at;
 ghost use mathlib.Core.Path.{_≡_};
 ghost use lib.Dec.{T};
 ghost use Rattle.machine.specs.Settings.{permitted};
 ghost use Rattle.machine.specs.Records.{recordInRange, isIdle, isSeeking, isHolding};
 ghost use Rattle.machine.specs.Turn.{access, next};
-ghost use Rattle.machine.specs.Calls.{standing, freed, answerOf};
+ghost use Rattle.machine.specs.Calls.{standing, freed, toldOf};
 
 // Whether the task is idle.
 pub fn is_idle(this: Record) -> bool
@@ -76,36 +76,36 @@ pub fn next(s: Settings, kind: Kind, task: TaskId, this: Record, v: u32) -> Reco
     }
 }
 
-// What an ask or a turn answers that leaves this record: "seeks", or "holds" with the name.
-fn standing(s: Settings, this: Record) -> Answer
+// What an ask or a turn tells that leaves this record: "seeks", or "holds" with the name.
+fn standing(s: Settings, this: Record) -> Told
     requires { ⌜ T (permitted s) × T (recordInRange s this) ⌝ }
-    ensures { λ answer. ⌜ answer ≡ standing s (this .state) ⌝ }
+    ensures { λ told. ⌜ told ≡ standing s (this .state) ⌝ }
 {
     let state = this.state;
     match state {
-        State::Idle => Answer::Seeks,
-        State::Seeking { .. } => Answer::Seeks,
-        State::Holding { r, c } => Answer::Holds(name_at(s, r, c)),
+        State::Idle => Told::Seeks,
+        State::Seeking { .. } => Told::Seeks,
+        State::Holding { r, c } => Told::Holds(name_at(s, r, c)),
     }
 }
 
-// What a release answers that finds this record: the freed name.
-fn freed(s: Settings, this: Record) -> Answer
+// What a release tells that finds this record: the freed name.
+fn freed(s: Settings, this: Record) -> Told
     requires { ⌜ T (permitted s) × T (recordInRange s this) ⌝ }
-    ensures { λ answer. ⌜ answer ≡ freed s (this .state) ⌝ }
+    ensures { λ told. ⌜ told ≡ freed s (this .state) ⌝ }
 {
     let state = this.state;
     match state {
-        State::Idle => Answer::Seeks,
-        State::Seeking { .. } => Answer::Seeks,
-        State::Holding { r, c } => Answer::Freed(name_at(s, r, c)),
+        State::Idle => Told::Seeks,
+        State::Seeking { .. } => Told::Seeks,
+        State::Holding { r, c } => Told::Freed(name_at(s, r, c)),
     }
 }
 
-// What an accepted call answers, from the record before it and the record after it.
-pub fn answer(s: Settings, kind: Kind, before: Record, after: Record) -> Answer
+// What an accepted call tells, from the record before it and the record after it.
+pub fn told(s: Settings, kind: Kind, before: Record, after: Record) -> Told
     requires { ⌜ T (permitted s) × T (recordInRange s before) × T (recordInRange s after) ⌝ }
-    ensures { λ said. ⌜ said ≡ answerOf s kind (before .state) (after .state) ⌝ }
+    ensures { λ told. ⌜ told ≡ toldOf s kind (before .state) (after .state) ⌝ }
 {
     match kind {
         Kind::Ask => standing(s, after),

@@ -11,6 +11,10 @@ use Rattle.report.specs.Writes.{Writes}
 pub five-digits : (n : ℕ) → n < 2 ^ 16 → length (decimal n) ≤ 5
 five-digits n l = digits-at-most 4 n (omega arith)
 
+-- and a 32-bit number at most ten
+pub ten-digits : (n : ℕ) → n < 2 ^ 32 → length (decimal n) ≤ 10
+ten-digits n l = digits-at-most 9 n (omega arith)
+
 -- a text as it stands
 pub whole : {room text after : List ℕ} {at to : ℕ} → Puts room at text to after
     → Writes (length text) room at text to after

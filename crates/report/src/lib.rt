@@ -4,17 +4,24 @@
 use machine::Answer;
 use machine::Event;
 use machine::Kind;
+use machine::Letter;
+use machine::Name;
 use machine::Refusal;
+use machine::Register;
 use machine::Settings;
+use machine::Shown;
+use machine::Told;
 use text::copy;
 use text::number;
+ghost use mathlib.Core.Path.{_≡_};
 ghost use mathlib.Core.List.{_++_};
 ghost use Prim.Native.Nat.{_+_, _≤_};
 ghost use lib.ListN.{length};
 ghost use Rattle.machine.specs.Answers.{numberOf};
 ghost use Rattle.text.specs.Decimal.{decimal, space, lineFeed};
 ghost use Rattle.text.specs.Put.{Puts};
-ghost use Rattle.printed.specs.Listing.{kindText, answerText, gridLine, eventLine, endLine, refusedLine};
+ghost use Rattle.printed.specs.Listing.{kindText, letterText, registerText, blockOf, placeOf, shownText, fieldsText, toldText};
+ghost use Rattle.printed.specs.Listing.{gridLine, eventLine, endLine, refusedLine};
 ghost use Rattle.report.specs.Writes.{Writes};
 
 // ---- pieces of a line
@@ -24,7 +31,7 @@ fn decimal(room: &mut [u8], at: usize, n: u16) -> usize
     requires { ⌜ at + 5 ≤ length (now room) ⌝ }
     ensures { λ to. ⌜ Writes 5 (now (room .entry)) at (decimal n) to (now (room .exit)) ⌝ }
 {
-    number(room, at, n)
+    number(room, at, n as u32)
 }
 
 // The end of a line.
@@ -65,17 +72,122 @@ fn put_kind(room: &mut [u8], at: usize, kind: Kind) -> usize
     }
 }
 
-// ANSWER: seeks, holds NAME, freed NAME or refused NUMBER.
-fn put_answer(room: &mut [u8], at: usize, answer: Answer) -> usize
-    requires { ⌜ at + 13 ≤ length (now room) ⌝ }
-    ensures { λ to. ⌜ Writes 13 (now (room .entry)) at (answerText answer) to (now (room .exit)) ⌝ }
+// A value in decimal, which has at most ten digits.
+fn value(room: &mut [u8], at: usize, n: u32) -> usize
+    requires { ⌜ at + 10 ≤ length (now room) ⌝ }
+    ensures { λ to. ⌜ Writes 10 (now (room .entry)) at (decimal n) to (now (room .exit)) ⌝ }
 {
-    match answer {
-        Answer::Done => copy(room, at, b"done"),
-        Answer::Seeks => copy(room, at, b"seeks"),
-        Answer::Holds(name) => labelled(room, at, b"holds ", name.0),
-        Answer::Freed(name) => labelled(room, at, b"freed ", name.0),
-        Answer::Refused(why) => labelled(room, at, b"refused ", why.number()),
+    number(room, at, n)
+}
+
+// ---- the five fields of an access
+
+// LETTER: how the register is touched.
+fn put_letter(room: &mut [u8], at: usize, letter: Letter) -> usize
+    requires { ⌜ at + 2 ≤ length (now room) ⌝ }
+    ensures { λ to. ⌜ Writes 2 (now (room .entry)) at (letterText letter) to (now (room .exit)) ⌝ }
+{
+    match letter {
+        Letter::R => copy(room, at, b"R "),
+        Letter::W => copy(room, at, b"W "),
+    }
+}
+
+// REGISTER: X, or M for a mark.
+fn put_register(room: &mut [u8], at: usize, register: Register) -> usize
+    requires { ⌜ at + 2 ≤ length (now room) ⌝ }
+    ensures { λ to. ⌜ Writes 2 (now (room .entry)) at (registerText register) to (now (room .exit)) ⌝ }
+{
+    match register {
+        Register::X { .. } => copy(room, at, b"X "),
+        Register::Mark { .. } => copy(room, at, b"M "),
+    }
+}
+
+// BLOCK: the register's block.
+fn block_of(register: Register) -> u16
+    ensures { λ block. ⌜ block ≡ blockOf register ⌝ }
+{
+    match register {
+        Register::X { block } => block,
+        Register::Mark { block, place: _ } => block,
+    }
+}
+
+// PLACE: the register's place among the block's marks; 0 for X.
+fn place_of(register: Register) -> u16
+    ensures { λ place. ⌜ place ≡ placeOf register ⌝ }
+{
+    match register {
+        Register::X { .. } => 0,
+        Register::Mark { block: _, place } => place,
+    }
+}
+
+// LETTER REGISTER BLOCK PLACE VALUE, or none where nothing is touched.
+fn put_shown(room: &mut [u8], at: usize, shown: Shown) -> usize
+    requires { ⌜ at + 26 ≤ length (now room) ⌝ }
+    ensures { λ to. ⌜ Writes 26 (now (room .entry)) at (shownText shown) to (now (room .exit)) ⌝ }
+{
+    match shown {
+        Shown::Nothing => copy(room, at, b"none"),
+        Shown::Touched {
+            letter,
+            register,
+            value: v,
+        } => {
+            let at = put_letter(room, at, letter);
+            let at = put_register(room, at, register);
+            let at = spaced(room, at, block_of(register));
+            let at = spaced(room, at, place_of(register));
+            value(room, at, v)
+        }
+    }
+}
+
+// A space and the fields, behind the answer to a turn or a release; nothing behind that to an ask.
+fn put_fields(room: &mut [u8], at: usize, kind: Kind, shown: Shown) -> usize
+    requires { ⌜ at + 27 ≤ length (now room) ⌝ }
+    ensures { λ to. ⌜ Writes 27 (now (room .entry)) at (fieldsText kind shown) to (now (room .exit)) ⌝ }
+{
+    match kind {
+        Kind::Ask => copy(room, at, b""),
+        Kind::Turn => {
+            let at = copy(room, at, b" ");
+            put_shown(room, at, shown)
+        }
+        Kind::Release => {
+            let at = copy(room, at, b" ");
+            put_shown(room, at, shown)
+        }
+    }
+}
+
+// ---- the answer
+
+// A text, a name after it, and the fields.
+fn put_name(room: &mut [u8], at: usize, label: &[u8], name: Name, kind: Kind, shown: Shown) -> usize
+    requires { ⌜ at + (length (now label) + 32) ≤ length (now room) ⌝ }
+    ensures { λ to. ⌜ Writes (length (now (label .entry)) + 32) (now (room .entry)) at (now (label .entry) ++ (decimal (name .0) ++ fieldsText kind shown)) to (now (room .exit)) ⌝ }
+{
+    let at = labelled(room, at, label, name.0);
+    put_fields(room, at, kind, shown)
+}
+
+// ANSWER: seeks, holds NAME, freed NAME, each with its fields, or refused NUMBER.
+fn put_told(room: &mut [u8], at: usize, kind: Kind, told: Told, shown: Shown) -> usize
+    requires { ⌜ at + 38 ≤ length (now room) ⌝ }
+    ensures { λ to. ⌜ Writes 38 (now (room .entry)) at (toldText kind told shown) to (now (room .exit)) ⌝ }
+{
+    match told {
+        Told::Done => copy(room, at, b"done"),
+        Told::Seeks => {
+            let at = copy(room, at, b"seeks");
+            put_fields(room, at, kind, shown)
+        }
+        Told::Holds(name) => put_name(room, at, b"holds ", name, kind, shown),
+        Told::Freed(name) => put_name(room, at, b"freed ", name, kind, shown),
+        Told::Refused(why) => labelled(room, at, b"refused ", why.number()),
     }
 }
 
@@ -100,17 +212,19 @@ pub fn put_grid(room: &mut [u8], s: Settings) -> usize
     numbers(room, 0, b"grid ", s.mode as u16, s.n, s.k as u16)
 }
 
-// The line `POSITION KIND ID ANSWER`.
+// The line `POSITION KIND ID ANSWER`, with the fields of the access behind the answer.
 pub fn put_event(room: &mut [u8], at: usize, position: u16, event: Event, answer: Answer) -> usize
-    requires { ⌜ at + 31 ≤ length (now room) ⌝ }
-    ensures { λ to. ⌜ Writes 31 (now (room .entry)) at (eventLine position event answer) to (now (room .exit)) ⌝ }
+    requires { ⌜ at + 56 ≤ length (now room) ⌝ }
+    ensures { λ to. ⌜ Writes 56 (now (room .entry)) at (eventLine position event answer) to (now (room .exit)) ⌝ }
 {
     let kind = event.kind;
     let task = event.task;
+    let told = answer.told;
+    let shown = answer.shown;
     let at = spaced(room, at, position);
     let at = put_kind(room, at, kind);
     let at = spaced(room, at, task.0);
-    let at = put_answer(room, at, answer);
+    let at = put_told(room, at, kind, told, shown);
     line_feed(room, at)
 }
 

@@ -5,12 +5,13 @@ use lib.Dec.{T}
 use borrow.Author.Tests.{leb-false, not-false}
 use Rattle.machine.specs.{Settings.permitted, Records.recordInRange, Memory.Memory, Turn.{access, next}}
 use Rattle.machine.specs.Refusals.{wrongMoment, lentCases, rangeCases, taskCases, verdict}
-use Rattle.machine.specs.promises.OneAccess.{RegisterNeeded}
+use Rattle.machine.specs.promises.OneAccess.{RegisterNeeded, Writable}
 use Rattle.machine.specs.declared.{Settings.Settings, View.View, Record.Record, Access.Access, Kind.Kind}
 use Rattle.machine.specs.declared.Verdict.{Verdict}
 use Rattle.machine.proofs.refusals.{Deciding.no-case, Limits.limits, Passed.{Long, none-short-long}}
 use Rattle.machine.proofs.calls.OneAccess.{access-needed}
-use Rattle.rules.specs.Decision.{Sees, Touched, touched, touching}
+use Rattle.registers.specs.Touching.{Touched, touched, touching}
+use Rattle.rules.specs.Decision.{Sees}
 use Rattle.machine.proofs.calls.Fitting as fitting
 
 pub record SeenPassed (s : Settings) (kind : Kind) (p : ℕ) (seen : View) (m : Memory) : Type 0 where
@@ -41,6 +42,10 @@ module _ {s : Settings} {kind : Kind} {p : ℕ} {seen : View} {m : Memory} (ok :
   pub touch-needed : RegisterNeeded s touch
   touch-needed = rw is (access-needed s (limits s (ok .limits)) p (ok .known) kind (seen .own .state)
       (ok .own-in-range))
+
+  -- and what it writes may stand there
+  pub touch-writable : Writable s touch
+  touch-writable = rw is (fitting.access-writes s (limits s (ok .limits)) kind p (seen .own .state) (ok .known))
 
   -- the record after it is in range
   pub next-in-range : (v : ℕ) (left : Memory) (new : Record) → touched v left ≡ touching s touch m

@@ -2,25 +2,27 @@
 -- its record and its answer.
 use mathlib.Core.Path.{_≡_, ap}
 use Prim.Native.Nat.{ℕ}
-use Rattle.machine.specs.{Memory.Memory, Turn.{access, next}, Calls.answerOf}
+use Rattle.machine.specs.{Memory.Memory, Turn.{access, shownBy, next}, Calls.toldOf, Answers.plain}
 use Rattle.machine.specs.declared.{Settings.Settings, Record.Record, View.View, Kind.Kind, Access.Access}
-use Rattle.machine.specs.declared.{Refusal.Refusal, Verdict.Verdict, Answer.Answer}
+use Rattle.machine.specs.declared.{Refusal.Refusal, Verdict.Verdict, Shown.Shown, Told.Told}
 use Rattle.machine.specs.Refusals.{verdict}
-use Rattle.rules.specs.Decision.{Touched, touched, touching, decided, decision}
+use Rattle.registers.specs.Touching.{Touched, touched, touching}
+use Rattle.rules.specs.Decision.{decided, decision}
 
 module _ (s : Settings) (kind : Kind) (p : ℕ) (seen : View) (m : Memory) where
   pub refused-decided : (why : Refusal) → verdict s kind p seen m ≡ Verdict.Refused why
-      → decided (record { answer = Answer.Refused why; own = seen .own }) m ≡ decision s kind p seen m
+      → decided (record { answer = plain (Told.Refused why); own = seen .own }) m ≡ decision s kind p seen m
   refused-decided why refused = rw refused
 
-  pub accepted-decided : (touch : Access) (left : Memory) (v : ℕ) (own : Record) (answer : Answer)
+  pub accepted-decided : (touch : Access) (left : Memory) (v : ℕ) (own : Record) (told : Told) (shown : Shown)
       → verdict s kind p seen m ≡ Verdict.Accepted
       → touch ≡ access s kind p (seen .own .state)
       → touched v left ≡ touching s touch m
       → own ≡ record { state = next s kind p (seen .own .state) v }
-      → answer ≡ answerOf s kind (seen .own .state) (own .state)
-      → decided (record { answer = answer; own = own }) left ≡ decision s kind p seen m
-  accepted-decided touch left v own answer accepted is touched next said =
+      → told ≡ toldOf s kind (seen .own .state) (own .state)
+      → shown ≡ shownBy touch v
+      → decided (record { answer = record { told = told; shown = shown }; own = own }) left ≡ decision s kind p seen m
+  accepted-decided touch left v own told shown accepted is touched next tells shows =
       let read = ap (λ (t : Touched). t .value) touched in
       let stored = ap (λ (t : Touched). t .memory) touched in
-      rw (accepted, said, next, read, stored, is)
+      rw (accepted, tells, shows, next, read, stored, is)

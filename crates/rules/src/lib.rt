@@ -1,7 +1,6 @@
 // What a call decides: given the settings, what it sees of the row of records, and the rows of X
 // numbers and marks, the refusal, or the one access, the answer and the task's next record.
 
-use machine::Access;
 use machine::Answer;
 use machine::Event;
 use machine::Kind;
@@ -9,95 +8,27 @@ use machine::Record;
 use machine::Refusal;
 use machine::Row;
 use machine::Settings;
+use machine::Shown;
 use machine::State;
 use machine::TaskId;
+use machine::Told;
 use machine::Verdict;
 use machine::View;
 ghost use mathlib.Core.Path.{_≡_};
 ghost use mathlib.Core.Bool.{false};
 ghost use mathlib.Core.List.{[]};
-ghost use Prim.Native.Nat.{ℕ, _≤_, _<_};
 ghost use lib.Dec.{T};
-ghost use lib.ListN.{length, getD};
 ghost use Rattle.machine.specs.Settings.{permitted};
-ghost use Rattle.machine.specs.Places.{blocks};
-ghost use Rattle.machine.specs.Memory.{marksNeeded, badX, badMark, fill};
 ghost use Rattle.machine.specs.Refusals.{first, rowShort, setupVerdict, lentCases, rangeCases, taskCases, oneTimeRelease, wrongMoment, moment, tooManyOut, verdict};
-ghost use Rattle.machine.specs.promises.OneAccess.{RegisterNeeded};
-ghost use Rattle.rules.specs.Decision.{rows, Sees, touched, touching, decided, decision, preparation};
+ghost use Rattle.registers.specs.Touching.{rows};
+ghost use Rattle.rules.specs.Decision.{Sees, decided, decision, preparation};
+ghost use Rattle.machine.specs.Answers.{plain};
 ghost use Rattle.machine.specs.Lent.{leaves};
 
 // The answer of a call, and the task's record to put back.
 pub struct Decided {
     pub answer: Answer,
     pub own: Record,
-}
-
-// The index of the first needed X number that is out of range; their count where none is.
-fn bad_x(s: Settings, xs: &[u32]) -> usize
-    requires { ⌜ T (permitted s) × (blocks s ≤ length (now xs)) ⌝ }
-    ensures { λ i. ⌜ i ≡ badX s (now (xs .entry)) ⌝ }
-{
-    let blocks = places::blocks(s);
-    let most = s.n as u32;
-    let mut i = 0;
-    while i < blocks {
-        if xs[i] > most {
-            return i;
-        }
-        i += 1;
-    }
-    blocks
-}
-
-// The largest of the first n marks. It has no way out of its loop, so it runs at full speed.
-fn largest_mark(marks: &[u8], n: usize) -> u8
-    requires { ⌜ n ≤ length (now marks) ⌝ }
-    ensures { λ top. ⌜ ((i : ℕ) → i < n → getD (now (marks .entry)) i 0 ≤ top) ⌝ }
-{
-    let mut top = 0u8;
-    let mut i = 0;
-    while i < n {
-        if marks[i] > top {
-            top = marks[i];
-        }
-        i += 1;
-    }
-    top
-}
-
-// The index of the first mark that is out of range, searched block by block and place by place;
-// the count of marks where none is.
-fn search_marks(s: Settings, marks: &[u8]) -> usize
-    requires { ⌜ T (permitted s) × (marksNeeded s ≤ length (now marks)) ⌝ }
-    ensures { λ i. ⌜ i ≡ badMark s (now (marks .entry)) ⌝ }
-{
-    let blocks = places::blocks(s);
-    let width = s.width() as usize;
-    'search: loop {
-        for block in 0..blocks {
-            for place in 0..width {
-                let i = block * width + place;
-                if marks[i] > 1 {
-                    break 'search i;
-                }
-            }
-        }
-        break 'search blocks * width;
-    }
-}
-
-// The index of the first needed mark that is out of range; their count where none is. The search
-// is skipped where no mark is above 1.
-fn bad_mark(s: Settings, marks: &[u8]) -> usize
-    requires { ⌜ T (permitted s) × (marksNeeded s ≤ length (now marks)) ⌝ }
-    ensures { λ i. ⌜ i ≡ badMark s (now (marks .entry)) ⌝ }
-{
-    let needed = places::marks_needed(s);
-    if largest_mark(marks, needed) <= 1 {
-        return needed;
-    }
-    search_marks(s, marks)
 }
 
 // Whether a lent row is shorter than needed.
@@ -184,14 +115,14 @@ fn range_verdict(s: Settings, seen: View, xs: &[u32], marks: &[u8]) -> Verdict
             index: bad,
         });
     }
-    let x = bad_x(s, xs);
+    let x = registers::bad_x(s, xs);
     if x < places::blocks(s) {
         return Verdict::Refused(Refusal::OutOfRange {
             row: Row::Xs,
             index: x,
         });
     }
-    let mark = bad_mark(s, marks);
+    let mark = registers::bad_mark(s, marks);
     if mark < places::marks_needed(s) {
         return Verdict::Refused(Refusal::OutOfRange {
             row: Row::Marks,
@@ -249,62 +180,13 @@ fn setup_verdict(s: Settings, seen: View, xs: &[u32], marks: &[u8]) -> Verdict
     }
 }
 
-// Makes the one access, and returns the value read; 0 where nothing is read.
-fn touch(s: Settings, access: Access, xs: &mut [u32], marks: &mut [u8]) -> u32
-    requires { ⌜ T (permitted s) × RegisterNeeded s access × (blocks s ≤ length (now xs)) × (marksNeeded s ≤ length (now marks)) ⌝ }
-    ensures { λ v. ⌜ touched v (rows (now (xs .exit)) (now (marks .exit))) ≡ touching s access (rows (now (xs .entry)) (now (marks .entry))) ⌝ }
+// An answer that shows no access.
+fn plain(told: Told) -> Answer
+    ensures { λ answer. ⌜ answer ≡ plain told ⌝ }
 {
-    match access {
-        Access::NoAccess => 0,
-        Access::XRead { block } => xs[block],
-        Access::XWritten { block, value } => {
-            xs[block] = value;
-            0
-        }
-        Access::MarkRead { block, place } => {
-            let index = places::mark_index(s, block, place);
-            wide(marks[index])
-        }
-        Access::MarkWritten {
-            block,
-            place,
-            value,
-        } => {
-            let index = places::mark_index(s, block, place);
-            marks[index] = value;
-            0
-        }
-    }
-}
-
-// A mark as the value of a read.
-fn wide(mark: u8) -> u32
-    ensures { λ v. ⌜ v ≡ mark ⌝ }
-{
-    mark as u32
-}
-
-// The first n X numbers become 0.
-fn clear_xs(xs: &mut [u32], n: usize)
-    requires { ⌜ n ≤ length (now xs) ⌝ }
-    ensures { λ _. ⌜ now (xs .exit) ≡ fill n 0 (now (xs .entry)) ⌝ }
-{
-    let mut i = 0;
-    while i < n {
-        xs[i] = 0;
-        i += 1;
-    }
-}
-
-// The first n marks become 0.
-fn clear_marks(marks: &mut [u8], n: usize)
-    requires { ⌜ n ≤ length (now marks) ⌝ }
-    ensures { λ _. ⌜ now (marks .exit) ≡ fill n 0 (now (marks .entry)) ⌝ }
-{
-    let mut i = 0;
-    while i < n {
-        marks[i] = 0;
-        i += 1;
+    Answer {
+        told: told,
+        shown: Shown::Nothing,
     }
 }
 
@@ -313,11 +195,11 @@ pub fn setup(s: Settings, seen: View, xs: &mut [u32], marks: &mut [u8]) -> Answe
     ensures { λ answer. ⌜ leaves answer (rows (now (xs .exit)) (now (marks .exit))) ≡ preparation s seen (rows (now (xs .entry)) (now (marks .entry))) ⌝ }
 {
     match setup_verdict(s, seen, xs, marks) {
-        Verdict::Refused(why) => Answer::Refused(why),
+        Verdict::Refused(why) => plain(Told::Refused(why)),
         Verdict::Accepted => {
-            clear_xs(xs, places::blocks(s));
-            clear_marks(marks, places::marks_needed(s));
-            Answer::Done
+            registers::clear_xs(xs, places::blocks(s));
+            registers::clear_marks(marks, places::marks_needed(s));
+            plain(Told::Done)
         }
     }
 }
@@ -333,15 +215,18 @@ pub fn decide(s: Settings, seen: View, xs: &mut [u32], marks: &mut [u8], event: 
     let own = seen.own;
     match verdict(s, kind, seen, xs, marks, task) {
         Verdict::Refused(why) => Decided {
-            answer: Answer::Refused(why),
+            answer: plain(Told::Refused(why)),
             own: own,
         },
         Verdict::Accepted => {
             let access = records::access(s, kind, task, own);
-            let v = touch(s, access, xs, marks);
+            let v = registers::touch(s, access, xs, marks);
             let next = records::next(s, kind, task, own, v);
             Decided {
-                answer: records::answer(s, kind, own, next),
+                answer: Answer {
+                    told: records::told(s, kind, own, next),
+                    shown: accesses::shown(access, v),
+                },
                 own: next,
             }
         }

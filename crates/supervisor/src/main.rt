@@ -13,6 +13,7 @@ use machine::Refusal;
 use machine::Settings;
 use machine::State;
 use machine::TaskId;
+use machine::Told;
 
 // Long-lived, four channels, two of them out at once, names by diagonal.
 fn board() -> Settings {
@@ -39,18 +40,19 @@ fn number(n: u16) {
 
 // What the channel is told. A refusal says what the supervisor does about it.
 fn tell(answer: Answer) {
-    match answer {
-        Answer::Done => say(b"done"),
-        Answer::Seeks => say(b"seeks"),
-        Answer::Holds(name) => {
+    let told = answer.told;
+    match told {
+        Told::Done => say(b"done"),
+        Told::Seeks => say(b"seeks"),
+        Told::Holds(name) => {
             say(b"holds ");
             number(name.0);
         }
-        Answer::Freed(name) => {
+        Told::Freed(name) => {
             say(b"freed ");
             number(name.0);
         }
-        Answer::Refused(why) => match why {
+        Told::Refused(why) => match why {
             Refusal::BusyRow => say(b"declines, a channel is out"),
             Refusal::TooManyOut => say(b"waits for a release"),
             Refusal::TaskIdle => say(b"has not asked"),

@@ -20,7 +20,7 @@ pub fn copy(out: &mut [u8], at: usize, text: &[u8]) -> usize
 }
 
 // Writes `n` in decimal into `out` from index `at` on, and returns the index past it.
-pub fn number(out: &mut [u8], at: usize, n: u16) -> usize
+pub fn number(out: &mut [u8], at: usize, n: u32) -> usize
     requires { ⌜ at + length (decimal n) ≤ length (now out) ⌝ }
     ensures { λ to. ⌜ Puts (now (out .entry)) at (decimal n) to (now (out .exit)) ⌝ }
 {

@@ -10,4 +10,5 @@ pub mod Counting
 pub mod Lending
 pub mod Arrays
 pub mod Fronts
+pub mod Spelt
 pub mod Prelude

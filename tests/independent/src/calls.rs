@@ -2,6 +2,7 @@
 
 use std::fmt;
 
+use crate::access::Access;
 use crate::grid::{Identifier, Name, Place, Point, Record, Registers, Settings};
 use crate::refusal::{Refusal, Row};
 use crate::rules::Rules;
@@ -53,12 +54,43 @@ impl Memory {
     }
 }
 
+/// Where an ask or a turn leaves its task.
 #[derive(Clone, Copy, PartialEq, Eq, Debug)]
-pub enum Answer {
-    Done,
+pub enum Stand {
     Seeks,
     Holds(Name),
-    Freed(Name),
+}
+
+/// What an accepted call answers. Of registers an ask and a setup say nothing (02, P6).
+#[derive(Clone, Copy, PartialEq, Eq, Debug)]
+pub enum Answer {
+    /// Setup.
+    Done,
+    /// Ask.
+    Asked(Stand),
+    /// Turn, with its access.
+    Turned(Stand, Access),
+    /// Release, with its access if it made one.
+    Freed(Name, Option<Access>),
+}
+
+impl Answer {
+    /// Where an ask or a turn leaves its task.
+    pub fn stand(self) -> Option<Stand> {
+        match self {
+            Answer::Asked(stand) | Answer::Turned(stand, _) => Some(stand),
+            Answer::Done | Answer::Freed(..) => None,
+        }
+    }
+}
+
+impl fmt::Display for Stand {
+    fn fmt(&self, text: &mut fmt::Formatter) -> fmt::Result {
+        match self {
+            Stand::Seeks => text.write_str("seeks"),
+            Stand::Holds(name) => write!(text, "holds {}", name.0),
+        }
+    }
 }
 
 /// As the listing prints it.
@@ -66,9 +98,10 @@ impl fmt::Display for Answer {
     fn fmt(&self, text: &mut fmt::Formatter) -> fmt::Result {
         match self {
             Answer::Done => text.write_str("done"),
-            Answer::Seeks => text.write_str("seeks"),
-            Answer::Holds(name) => write!(text, "holds {}", name.0),
-            Answer::Freed(name) => write!(text, "freed {}", name.0),
+            Answer::Asked(stand) => write!(text, "{stand}"),
+            Answer::Turned(stand, access) => write!(text, "{stand} {access}"),
+            Answer::Freed(name, Some(access)) => write!(text, "freed {} {access}", name.0),
+            Answer::Freed(name, None) => write!(text, "freed {} none", name.0),
         }
     }
 }
@@ -97,7 +130,7 @@ pub fn ask(
     } else {
         Record::Seeking(start, Point::WriteX)
     };
-    Ok(seeks_or_holds(rules, settings, memory.records[p]))
+    Ok(Answer::Asked(stand(rules, settings, memory.records[p])))
 }
 
 /// Turn tests 1 to 4, 15 and 17.
@@ -111,8 +144,9 @@ pub fn turn(
     let Record::Seeking(place, point) = memory.records[p] else {
         return Err(rules.wrong_moment(Kind::Turn, memory.records[p]));
     };
-    memory.records[p] = rules.turn(settings, p, place, point, &mut memory.registers);
-    Ok(seeks_or_holds(rules, settings, memory.records[p]))
+    let (next, access) = rules.turn(settings, p, place, point, &mut memory.registers);
+    memory.records[p] = next;
+    Ok(Answer::Turned(stand(rules, settings, next), access))
 }
 
 /// Release tests 1 to 5, 15 and 16.
@@ -129,17 +163,16 @@ pub fn release(
     let Record::Holding(place) = memory.records[p] else {
         return Err(rules.wrong_moment(Kind::Free, memory.records[p]));
     };
-    if settings.is_block(place) {
-        rules.release(settings, p, place, &mut memory.registers);
-    }
+    let access = rules.release(settings, p, place, &mut memory.registers);
     memory.records[p] = Record::Idle;
-    Ok(Answer::Freed(rules.name(settings, place)))
+    Ok(Answer::Freed(rules.name(settings, place), access))
 }
 
-fn seeks_or_holds(rules: &dyn Rules, settings: Settings, record: Record) -> Answer {
+/// Where a task with this record stands after its ask or turn.
+fn stand(rules: &dyn Rules, settings: Settings, record: Record) -> Stand {
     match record {
-        Record::Holding(place) => Answer::Holds(rules.name(settings, place)),
-        _ => Answer::Seeks,
+        Record::Holding(place) => Stand::Holds(rules.name(settings, place)),
+        _ => Stand::Seeks,
     }
 }
 

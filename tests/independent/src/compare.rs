@@ -1,7 +1,7 @@
 //! The command `compare`: a program that prints listings, run on each generated case, must print
 //! the same bytes as the listing here.
 
-use crate::comparison::{self, Counts, Input, Part};
+use crate::comparison::{self, same_lines, Counts, Input, Part};
 use crate::generate::{fixed_cases, random_case, Case};
 use crate::listing::listing;
 use crate::program::Program;
@@ -21,10 +21,11 @@ pub struct Plan {
 pub fn run(plan: &Plan) -> (usize, usize) {
     let fixed = if plan.fixed { fixed_cases() } else { Vec::new() };
     println!("seed {}: {} fixed cases, then random ones", plan.seed, fixed.len());
-    comparison::run(&plan.program, plan.seconds, &|index| {
+    let input = |index| {
         let case = case_at(plan, &fixed, index)?;
         Some(input_of(plan.seed, index, case))
-    })
+    };
+    comparison::run(&plan.program, plan.seconds, &input, &same_lines)
 }
 
 /// The case of an index, if one is due there.
@@ -56,8 +57,7 @@ fn answers(text: &str) -> Counts {
         let words: Vec<&str> = line.split(' ').collect();
         let answer = match words[..] {
             [_, _, _, "refused", number] => format!("refused {number}"),
-            [_, _, _, "seeks"] => "seeks".to_string(),
-            [_, _, _, answer, _] => answer.to_string(),
+            [_, "ask" | "turn" | "free", _, answer, ..] => answer.to_string(),
             ["refused", number] => format!("file refused {number}"),
             _ => continue,
         };

@@ -1,5 +1,5 @@
-//! What `compare` and `calls` share: a program, run on one input after another, must print the
-//! bytes that are due on each. An input holds one case or many, and each case counts one.
+//! What `compare`, `calls`, `trace` and `cut` share: a program is run on one input after another,
+//! and what it prints on each is judged. An input holds one case or many, and each case counts one.
 
 use std::collections::BTreeMap;
 use std::sync::atomic::{AtomicUsize, Ordering};
@@ -7,7 +7,8 @@ use std::sync::Mutex;
 use std::thread;
 use std::time::Instant;
 
-use crate::program::{keep, Program, RAN_TOO_LONG};
+use crate::generate::Case;
+use crate::program::{keep, Printer, RAN_TOO_LONG};
 
 /// After so many inputs on which the program ran too long no more are run.
 const MOST_TOO_LONG: usize = 4;
@@ -24,7 +25,7 @@ pub struct Part {
     /// What a difference calls it.
     pub label: String,
     pub family: String,
-    /// The lines that are due.
+    /// The lines that are due, if the judge compares them.
     pub due: String,
     /// How often each answer stands in them: `seeks`, `holds`, `freed`, `refused 7`, ...
     pub answers: Counts,
@@ -38,6 +39,23 @@ pub struct Input {
     pub file: String,
     pub parts: Vec<Part>,
 }
+
+impl Input {
+    /// The file of a schedule, with no lines due on it; kept under a name that begins with a word.
+    pub fn of_schedule(word: &str, index: usize, case: &Case) -> Input {
+        let part = Part {
+            label: format!("schedule {index}, {}", case.label),
+            family: case.family().to_string(),
+            due: String::new(),
+            answers: Counts::new(),
+        };
+        let file = format!("{word}-{index}.grs");
+        Input { bytes: case.bytes.clone(), piece: case.piece, file, parts: vec![part] }
+    }
+}
+
+/// Says of each case of an input what is wrong with what was printed, if something is.
+pub type Judge<'a> = &'a (dyn Fn(&Input, &[u8]) -> Vec<Option<String>> + Sync);
 
 /// What is known so far.
 #[derive(Default)]
@@ -59,7 +77,9 @@ impl Tally {
             all.join(", ")
         };
         println!("cases: {}", line(&self.families));
-        println!("answers due: {}", line(&self.answers));
+        if !self.answers.is_empty() {
+            println!("answers due: {}", line(&self.answers));
+        }
     }
 
     fn done(&self) -> usize {
@@ -67,7 +87,7 @@ impl Tally {
     }
 
     /// Counts an input's cases, and prints and keeps what differs.
-    fn add(&mut self, input: &Input, printed: Result<Vec<u8>, String>) {
+    fn add(&mut self, input: &Input, judged: Result<Vec<Option<String>>, String>) {
         for part in &input.parts {
             *self.families.entry(part.family.clone()).or_default() += 1;
             for (answer, count) in &part.answers {
@@ -75,10 +95,10 @@ impl Tally {
             }
         }
         let shown_before = self.shown;
-        match printed {
-            Ok(printed) => {
-                for (part, different) in input.parts.iter().zip(differences(input, &printed)) {
-                    match different {
+        match judged {
+            Ok(faults) => {
+                for (part, fault) in input.parts.iter().zip(faults) {
+                    match fault {
                         None => self.passed += 1,
                         Some(text) => self.fail(1, &format!("{}: {text}", part.label)),
                     }
@@ -117,9 +137,10 @@ fn labels(parts: &[Part]) -> String {
 
 /// A comparison under way.
 struct Comparison<'a> {
-    program: &'a Program,
+    printer: &'a dyn Printer,
     seconds: Option<u64>,
     input: &'a (dyn Fn(usize) -> Option<Input> + Sync),
+    judge: Judge<'a>,
     start: Instant,
     next: AtomicUsize,
     tally: Mutex<Tally>,
@@ -128,14 +149,16 @@ struct Comparison<'a> {
 /// Runs the program on the inputs of index 0, 1, ... until there are no more or the time is over,
 /// and answers how many cases passed and how many failed.
 pub fn run(
-    program: &Program,
+    printer: &dyn Printer,
     seconds: Option<u64>,
     input: &(dyn Fn(usize) -> Option<Input> + Sync),
+    judge: Judge,
 ) -> (usize, usize) {
     let comparison = Comparison {
-        program,
+        printer,
         seconds,
         input,
+        judge,
         start: Instant::now(),
         next: AtomicUsize::new(0),
         tally: Mutex::new(Tally::default()),
@@ -157,10 +180,11 @@ impl Comparison<'_> {
     /// Takes inputs until there are no more, or the time is over.
     fn work(&self) {
         while let Some(input) = self.next_input() {
-            let printed = self.program.run(&input.bytes, input.piece);
+            let printed = self.printer.print(&input.bytes, input.piece);
+            let judged = printed.map(|printed| (self.judge)(&input, &printed));
             let mut tally = self.tally.lock().expect("no worker stops early");
             let done_before = tally.done();
-            tally.add(&input, printed);
+            tally.add(&input, judged);
             if tally.too_long >= MOST_TOO_LONG {
                 println!("no more cases are run");
                 return;
@@ -182,9 +206,9 @@ impl Comparison<'_> {
     }
 }
 
-/// Where each case of an input differs, if it does. A case is given as many of the printed lines as
-/// are due on it, and the last one all that are left.
-fn differences(input: &Input, printed: &[u8]) -> Vec<Option<String>> {
+/// The judge that compares lines: where each case of an input differs, if it does. A case is given as
+/// many of the printed lines as are due on it, and the last one all that are left.
+pub fn same_lines(input: &Input, printed: &[u8]) -> Vec<Option<String>> {
     let printed = lines_of(printed);
     let mut left = &printed[..];
     let last = input.parts.len().saturating_sub(1);

@@ -1,6 +1,6 @@
 //! A setup and the calls after it, with what the end line of the listing counts.
 
-use crate::calls::{self, Answer, Memory};
+use crate::calls::{self, Answer, Memory, Stand};
 use crate::grid::{Out, Record, Settings};
 use crate::refusal::Refusal;
 use crate::rules::Rules;
@@ -57,7 +57,7 @@ impl<'a> History<'a> {
             Kind::Turn => self.turns[task] += 1,
             Kind::Free => {}
         }
-        if let Answer::Holds(_) = answer {
+        if let Some(Stand::Holds(_)) = answer.stand() {
             self.most = self.most.max(self.turns[task]);
         }
         Ok(answer)

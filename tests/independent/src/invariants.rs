@@ -3,7 +3,7 @@
 
 use std::collections::HashSet;
 
-use crate::calls::{Answer, Memory};
+use crate::calls::{Memory, Stand};
 use crate::generate::histories::random_schedule;
 use crate::generate::paths;
 use crate::generate::worst::{self, in_order, worst_schedule, LastWriter};
@@ -77,11 +77,12 @@ fn check_history(settings: Settings, events: &[Event]) -> Result<(), String> {
         }
         if event.kind == Kind::Turn && matches!(record, Some(Record::Seeking(..))) {
             let used = history.turns[usize::from(event.id)];
-            match answer {
-                Err(_) => return fail("the turn of a seeking task was refused"),
-                Ok(Answer::Seeks) if used >= settings.bound() => return fail("bound passed"),
-                Ok(_) if used > settings.bound() => return fail("bound passed"),
-                Ok(_) => {}
+            let Ok(answer) = answer else {
+                return fail("the turn of a seeking task was refused");
+            };
+            let seeks = answer.stand() == Some(Stand::Seeks);
+            if used > settings.bound() || (seeks && used == settings.bound()) {
+                return fail("bound passed");
             }
         }
         check_names(settings, &history.memory).or_else(|cause| fail(&cause))?;

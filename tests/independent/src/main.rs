@@ -10,11 +10,11 @@ use std::time::{Instant, SystemTime, UNIX_EPOCH};
 use independent::generate::worst::{in_order, worst_schedule, LastWriter};
 use independent::grid::Settings;
 use independent::listing::listing;
-use independent::program::Program;
+use independent::program::{ListingHere, Printer, Program};
 use independent::rules::{Grid, Rules};
 use independent::schedule::{file_of, Event, Kind, MOST_EVENTS};
 use independent::variants::rules_named;
-use independent::{call_cases, compare, invariants, power};
+use independent::{call_cases, compare, cut, invariants, power, trace};
 
 const USAGE: &str = "\
 independent compare PROGRAM [--seed S] [--count C] [--seconds T] [-- ARGUMENTS...]
@@ -25,6 +25,10 @@ independent power [--seed S] [--count C]
     shows that the schedules and the calls tell each variant from the grid
 independent invariants [--seed S] [--count C]
     tries demand 3 on the grid here
+independent trace [PROGRAM] [--seed S] [--count C] [-- ARGUMENTS...]
+    builds the registers again from the accesses in the listings of PROGRAM, or of the grid here
+independent cut [PROGRAM] [--seed S] [--count C] [-- ARGUMENTS...]
+    cuts the accesses off these listings, in version 1: what is left is the listing of before 02, P6
 independent list FILE
     prints the listing of a schedule file
 independent gridlist [--variant NAME]
@@ -48,9 +52,11 @@ independent time FILE
     prints the time that the listing of FILE takes here";
 
 const SEED: u64 = 1;
-// How many random cases `compare`, `power` and `invariants` run, and how long `fresh` runs.
+// How many random cases `compare`, `power`, `trace`, `cut` and `invariants` run, and how long `fresh`
+// runs.
 const COMPARED: u64 = 3_000;
 const TOLD: u64 = 1_000;
+const TRACED: u64 = 1_000;
 const CHECKED: u64 = 2_000;
 const SECONDS: u64 = 60;
 
@@ -80,6 +86,8 @@ fn run(words: &[&str]) -> Result<ExitCode, String> {
             let count = options.count.unwrap_or(CHECKED);
             Ok(closing_line(invariants::run(options.seed.unwrap_or(SEED), count)))
         }
+        ["trace", words @ ..] => check_listings(trace::run, words),
+        ["cut", words @ ..] => check_listings(cut::run, words),
         ["list", file] => print(listing(&Grid, &read_file(file)?).as_bytes()),
         ["gridlist"] => list_input("grid"),
         ["gridlist", "--variant", name] => list_input(name),
@@ -217,6 +225,24 @@ fn compare_with(program: &str, words: &[&str]) -> Result<ExitCode, String> {
         count: options.count.or(options.seconds.is_none().then_some(COMPARED)),
         seconds: options.seconds,
     })))
+}
+
+/// Checks the schedules of a seed by the listings of a program or, if none is named, of the grid here.
+fn check_listings(
+    check: fn(&dyn Printer, u64, u64) -> (usize, usize),
+    words: &[&str],
+) -> Result<ExitCode, String> {
+    let (words, arguments) = program_arguments(words);
+    let (program, options) = match words {
+        [program, options @ ..] if !program.starts_with("--") => (Some(program), options),
+        _ => (None, words),
+    };
+    let options = Options::read(options, &["--seed", "--count"])?;
+    let (seed, count) = (options.seed.unwrap_or(SEED), options.count.unwrap_or(TRACED));
+    Ok(closing_line(match program {
+        None => check(&ListingHere, seed, count),
+        Some(path) => check(&Program { path: PathBuf::from(path), arguments }, seed, count),
+    }))
 }
 
 /// The calls of a seed and, if there is a time, of those that follow.

@@ -1,5 +1,6 @@
 //! The command `power`: the generated schedules tell from the grid each variant that differs in
-//! listings, and the calls on arbitrary memories each that differs in calls.
+//! listings, the calls on arbitrary memories each that differs in calls, and `trace` finds a fault in
+//! the listings of each that shows wrong accesses.
 
 use std::collections::HashMap;
 use std::thread;
@@ -8,7 +9,8 @@ use crate::call_cases::{self, CallCase};
 use crate::generate::{fixed_cases, random_case, Case};
 use crate::listing::listing;
 use crate::rules::{Grid, Rules};
-use crate::variants::{self, Variant};
+use crate::trace;
+use crate::variants::{self, accesses, Variant};
 
 /// Longer files are left out: they are few and would take most of the time.
 const LONGEST_FILE: usize = 4_000;
@@ -47,12 +49,12 @@ fn clashes(text: &str) -> bool {
     text.lines().any(|line| {
         let words: Vec<&str> = line.split(' ').collect();
         match words[..] {
-            [_, _, _, "holds", name] => {
+            [_, _, _, "holds", name, ..] => {
                 let count = holders.entry(name).or_default();
                 *count += 1;
                 *count > 1
             }
-            [_, _, _, "freed", name] => {
+            [_, _, _, "freed", name, ..] => {
                 *holders.entry(name).or_insert(1) -= 1;
                 false
             }
@@ -80,9 +82,18 @@ fn calls_told(rules: &dyn Rules, cases: &[CallCase]) -> usize {
     cases.iter().filter(other).count()
 }
 
+/// In how many of the variant's listings `trace` finds a fault.
+fn faulty_traces(rules: &dyn Rules, cases: &[(Case, String)]) -> usize {
+    let faulty = |(case, text): &&(Case, String)| {
+        let is_schedule = text.starts_with("grid ");
+        is_schedule && trace::fault(&case.bytes, listing(rules, &case.bytes).as_bytes()).is_some()
+    };
+    cases.iter().filter(faulty).count()
+}
+
 /// Prints one line a variant (how many listings differ from the grid's, in how many of these two
-/// tasks hold one name, and the shortest), then one with the calls that differ, and answers how many
-/// were told from the grid and how many not, by schedules and by calls.
+/// tasks hold one name, and the shortest), then one with the faulty traces and one with the calls
+/// that differ, and answers how many were told from the grid and how many not, by each of these.
 pub fn run(seed: u64, count: u64) -> (usize, usize) {
     let random = (0..count).map(|index| random_case(seed, index));
     let with_listing = |case: Case| {
@@ -112,17 +123,22 @@ pub fn run(seed: u64, count: u64) -> (usize, usize) {
         let label = &case.label;
         println!("{name}: {differing} differ, {clashing} clash; shortest: {label}: {difference}");
     }
+    let mut tell = |name: &str, told: usize, what: &str| {
+        if told == 0 {
+            println!("{name}: NOT TOLD from the grid: no {what}");
+            return;
+        }
+        passed += 1;
+        println!("{name}: {told} {what}");
+    };
+    for Variant { name, rules, .. } in &accesses::ALL {
+        tell(name, faulty_traces(*rules, &cases), "faulty traces");
+    }
     let calls = call_cases::cases(seed);
     println!("{} calls on arbitrary memories, under the grid and under each variant", calls.len());
     let by_calls = variants::told_by_calls();
     for Variant { name, rules, .. } in &by_calls {
-        match calls_told(*rules, &calls) {
-            0 => println!("{name}: NOT TOLD from the grid by calls"),
-            differing => {
-                passed += 1;
-                println!("{name}: {differing} calls differ");
-            }
-        }
+        tell(name, calls_told(*rules, &calls), "calls that differ");
     }
-    (passed, variants.len() + by_calls.len() - passed)
+    (passed, variants.len() + accesses::ALL.len() + by_calls.len() - passed)
 }

@@ -1,4 +1,5 @@
 //! Running a program on an input, for the commands that compare, and keeping the inputs that matter.
+//! In place of a program the listing here may be taken.
 
 use std::fs;
 use std::io::{Read, Write};
@@ -8,10 +9,28 @@ use std::sync::mpsc;
 use std::thread;
 use std::time::Duration;
 
+use crate::listing::listing;
+use crate::rules::Grid;
+
 /// A program that runs longer on one input is ended and has failed.
 const PATIENCE: Duration = Duration::from_secs(60);
 pub const RAN_TOO_LONG: &str = "ran longer than a minute";
 const DIFFERENCES: &str = "target/differences";
+
+/// What prints something of an input, or says what went wrong. The bytes are handed over in pieces
+/// of so many; 0 means whole.
+pub trait Printer: Sync {
+    fn print(&self, bytes: &[u8], piece: usize) -> Result<Vec<u8>, String>;
+}
+
+/// The listing of the grid here.
+pub struct ListingHere;
+
+impl Printer for ListingHere {
+    fn print(&self, bytes: &[u8], _: usize) -> Result<Vec<u8>, String> {
+        Ok(listing(&Grid, bytes).into_bytes())
+    }
+}
 
 pub struct Program {
     pub path: PathBuf,
@@ -19,11 +38,10 @@ pub struct Program {
     pub arguments: Vec<String>,
 }
 
-impl Program {
-    /// Runs the program on the bytes and answers what it printed, or what went wrong. 01 says
-    /// nothing of its exit status or of standard error, so any status will do but an end by a
-    /// signal. The bytes are handed over in pieces of so many; 0 means whole.
-    pub fn run(&self, bytes: &[u8], piece: usize) -> Result<Vec<u8>, String> {
+impl Printer for Program {
+    /// Runs the program on the bytes. 01 says nothing of its exit status or of standard error, so
+    /// any status will do but an end by a signal.
+    fn print(&self, bytes: &[u8], piece: usize) -> Result<Vec<u8>, String> {
         let mut command = Command::new(&self.path);
         command.args(&self.arguments);
         command.stdin(Stdio::piped()).stdout(Stdio::piped()).stderr(Stdio::null());

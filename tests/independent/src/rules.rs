@@ -1,6 +1,7 @@
 //! 01, "Rules of the grid", with the requests of 02: what an accepted call does, and those tests that
 //! are easily misread.
 
+use crate::access::{Access, Operation, Register};
 use crate::calls::{test_rows, Answer, Memory};
 use crate::grid::{x_of, Direction, Name, Out, Place, Point, Record, Registers, Settings};
 use crate::refusal::Refusal;
@@ -18,13 +19,46 @@ pub trait Rules: Sync {
         }
     }
 
+    /// The place of the task's mark among those of a block, or of its one mark.
+    fn mark_place(&self, settings: Settings, task: usize) -> usize {
+        if settings.long_lived() {
+            task
+        } else {
+            0
+        }
+    }
+
     /// The index of the block's mark of the task, or of its one mark.
     fn mark(&self, settings: Settings, block: usize, task: usize) -> usize {
-        if settings.long_lived() {
-            block * settings.tasks() + task
-        } else {
-            block
-        }
+        block * self.marks_in_block(settings) + self.mark_place(settings, task)
+    }
+
+    /// Reads the block's mark of the task, or its one mark.
+    fn read_mark(
+        &self,
+        settings: Settings,
+        registers: &Registers,
+        block: usize,
+        task: usize,
+    ) -> Access {
+        let place = self.mark_place(settings, task);
+        let value = u32::from(registers.marks[self.mark(settings, block, task)]);
+        Access { operation: Operation::Read, register: Register::Mark, block, place, value }
+    }
+
+    /// Writes the block's mark of the task, or its one mark.
+    fn write_mark(
+        &self,
+        settings: Settings,
+        registers: &mut Registers,
+        block: usize,
+        task: usize,
+        mark: u8,
+    ) -> Access {
+        let place = self.mark_place(settings, task);
+        registers.marks[self.mark(settings, block, task)] = mark;
+        let value = u32::from(mark);
+        Access { operation: Operation::Write, register: Register::Mark, block, place, value }
     }
 
     /// Test 1.
@@ -94,7 +128,8 @@ pub trait Rules: Sync {
         peak.max(after.all())
     }
 
-    /// A turn of the seeking task p that stands at this place and point: the next record.
+    /// A turn of the seeking task p that stands at this place and point: the next record, and the
+    /// access that was made.
     fn turn(
         &self,
         settings: Settings,
@@ -102,14 +137,20 @@ pub trait Rules: Sync {
         place: Place,
         point: Point,
         registers: &mut Registers,
-    ) -> Record {
+    ) -> (Record, Access) {
         grid_turn(self, settings, p, place, point, registers)
     }
 
-    /// What the release of task p does in the block where it stands.
-    fn release(&self, settings: Settings, p: usize, place: Place, registers: &mut Registers) {
-        let own = self.mark(settings, settings.block(place), p);
-        registers.marks[own] = 0;
+    /// The release of task p from a place: the access that was made, which is none on the edge.
+    fn release(
+        &self,
+        settings: Settings,
+        p: usize,
+        place: Place,
+        registers: &mut Registers,
+    ) -> Option<Access> {
+        let clear = || self.write_mark(settings, registers, settings.block(place), p, 0);
+        settings.is_block(place).then(clear)
     }
 }
 
@@ -121,36 +162,40 @@ pub fn grid_turn<R: Rules + ?Sized>(
     place: Place,
     point: Point,
     registers: &mut Registers,
-) -> Record {
+) -> (Record, Access) {
     let block = settings.block(place);
     match point {
         Point::WriteX => {
-            registers.x[block] = x_of(p);
-            Record::Seeking(place, Point::Scan(0))
+            let access = Access::write_x(registers, block, x_of(p));
+            (Record::Seeking(place, Point::Scan(0)), access)
         }
         Point::Scan(h) => {
-            if registers.marks[rules.mark(settings, block, usize::from(h))] == 1 {
+            let access = rules.read_mark(settings, registers, block, usize::from(h));
+            let next = if access.value == 1 {
                 leave(settings, place, Direction::Right)
             } else if settings.long_lived() && h + 1 < settings.n {
                 Record::Seeking(place, Point::Scan(h + 1))
             } else {
                 Record::Seeking(place, Point::WriteMark)
-            }
+            };
+            (next, access)
         }
         Point::WriteMark => {
-            registers.marks[rules.mark(settings, block, p)] = 1;
-            Record::Seeking(place, Point::ReadX)
+            let access = rules.write_mark(settings, registers, block, p, 1);
+            (Record::Seeking(place, Point::ReadX), access)
         }
         Point::ReadX => {
-            if registers.x[block] == x_of(p) {
+            let access = Access::read_x(registers, block);
+            let next = if access.value == x_of(p) {
                 Record::Holding(place)
             } else {
                 leave(settings, place, Direction::Down)
-            }
+            };
+            (next, access)
         }
         Point::Clear(direction) => {
-            registers.marks[rules.mark(settings, block, p)] = 0;
-            moved(settings, place, direction)
+            let access = rules.write_mark(settings, registers, block, p, 0);
+            (moved(settings, place, direction), access)
         }
     }
 }

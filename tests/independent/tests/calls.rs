@@ -60,7 +60,7 @@ fn an_outcome_letter_for_letter() {
         .chain([0, 0, 0, 0, 0, 0, 1, 0, 0, 0, 0, 0, 2, 9, 9, 0, 0, 0])
         .chain([1, 0, 0, 0, 0, 1])
         .collect::<Vec<u8>>();
-    let due = "answer seeks\nrecords idle seek/0/0/scan/0 hold/9/9\nx 2\nmarks 0 1\n";
+    let due = "answer seeks W X 0 0 2\nrecords idle seek/0/0/scan/0 hold/9/9\nx 2\nmarks 0 1\n";
     assert_eq!(outcomes(&Grid, &input).unwrap(), due);
     let two = [&input[..], &input[..]].concat();
     assert_eq!(outcomes(&Grid, &two).unwrap(), due.repeat(2));
@@ -146,10 +146,10 @@ fn edges(case: &CallCase) -> Vec<String> {
             };
             edges.extend((own && right).then(|| "own mark 1".to_string()));
         }
-        (Call::Release(p), Ok(Answer::Freed(_))) => {
+        (Call::Release(p), Ok(Answer::Freed(_, access))) => {
             let Record::Holding(place) = records[usize::from(*p)] else { unreachable!() };
             let touches_nothing = before.registers == after.registers && marks.contains(&1);
-            let edge = !settings.is_block(place) && touches_nothing;
+            let edge = !settings.is_block(place) && touches_nothing && access.is_none();
             edges.extend(edge.then(|| "release on the edge".to_string()));
         }
         _ => {}

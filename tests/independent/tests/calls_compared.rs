@@ -125,6 +125,6 @@ fn one_wrong_answer_is_said_plainly() {
     let (success, _, failed, text) = spoiled("plainly", wrong);
     assert!(!success && failed > 0 && failed <= inputs(1).len());
     let said = "seed 1 case 0, byte 0 of input 0, greatest rows, settings 1 256 16 1, call turn 255: line 1: \
-                due \"answer seeks\\n\", printed \"answer holds 3\\n\"";
+                due \"answer seeks R M 119 255 1\\n\", printed \"answer holds 3 R M 119 255 1\\n\"";
     assert!(text.contains(said), "{text}");
 }

@@ -2,7 +2,7 @@
 
 use std::collections::BTreeSet;
 
-use independent::calls::Answer;
+use independent::calls::{Answer, Stand};
 use independent::grid::{Name, Place, Settings};
 use independent::history::History;
 use independent::refusal::Refusal;
@@ -27,7 +27,7 @@ impl Board {
     /// The name that the task gets, and the turns it took.
     fn turns_to_hold(&mut self, id: u16) -> (u32, usize) {
         for turns in 1.. {
-            if let Answer::Holds(name) = self.call(Kind::Turn, id).unwrap() {
+            if let Some(Stand::Holds(name)) = self.call(Kind::Turn, id).unwrap().stand() {
                 return (name.0, turns);
             }
         }
@@ -90,7 +90,7 @@ fn names_and_blocks_are_counted_row_by_row() {
 fn k_1_holds_at_once() {
     for mode in [0, 1] {
         let mut board = Board::new(mode, 2, 1);
-        assert_eq!(board.ask(1), Ok(Answer::Holds(Name(0))));
+        assert_eq!(board.ask(1), Ok(Answer::Asked(Stand::Holds(Name(0)))));
         assert_eq!(board.ask(0), Err(Refusal::TooManyOut));
         assert_eq!(board.0.most, 0);
     }
@@ -100,9 +100,9 @@ fn k_1_holds_at_once() {
 fn lone_task_and_the_one_behind_it() {
     for (first, second, turns) in [(0, 1, 3), (1, 0, 4)] {
         let mut board = Board::new(1, 2, 2);
-        assert_eq!(board.ask(first), Ok(Answer::Seeks));
+        assert_eq!(board.ask(first), Ok(Answer::Asked(Stand::Seeks)));
         assert_eq!(board.turns_to_hold(first), (0, 5));
-        assert_eq!(board.ask(second), Ok(Answer::Seeks));
+        assert_eq!(board.ask(second), Ok(Answer::Asked(Stand::Seeks)));
         assert_eq!(board.turns_to_hold(second), (1, turns));
     }
 }
@@ -110,9 +110,9 @@ fn lone_task_and_the_one_behind_it() {
 #[test]
 fn one_time_first_and_later_task() {
     let mut board = Board::new(0, 2, 2);
-    assert_eq!(board.ask(1), Ok(Answer::Seeks));
+    assert_eq!(board.ask(1), Ok(Answer::Asked(Stand::Seeks)));
     assert_eq!(board.turns_to_hold(1), (0, 4));
-    assert_eq!(board.ask(0), Ok(Answer::Seeks));
+    assert_eq!(board.ask(0), Ok(Answer::Asked(Stand::Seeks)));
     assert_eq!(board.turns_to_hold(0), (1, 2));
 }
 
@@ -124,15 +124,15 @@ fn third_task_waits_until_one_is_freed() {
     assert_eq!(board.ask(2), Err(Refusal::TooManyOut));
     assert_eq!(board.turns_to_hold(0).0, 0);
     assert_eq!(board.ask(2), Err(Refusal::TooManyOut));
-    assert_eq!(board.call(Kind::Free, 0), Ok(Answer::Freed(Name(0))));
-    assert_eq!(board.ask(2), Ok(Answer::Seeks));
+    assert!(matches!(board.call(Kind::Free, 0), Ok(Answer::Freed(Name(0), Some(_)))));
+    assert_eq!(board.ask(2), Ok(Answer::Asked(Stand::Seeks)));
 }
 
 #[test]
 fn identifiers_about_256() {
     let mut board = Board::new(1, 256, 16);
     assert_eq!(board.ask(256), Err(Refusal::Identifier));
-    assert_eq!(board.ask(255), Ok(Answer::Seeks));
+    assert_eq!(board.ask(255), Ok(Answer::Asked(Stand::Seeks)));
 }
 
 #[test]

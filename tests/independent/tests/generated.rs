@@ -3,7 +3,7 @@
 use std::collections::BTreeSet;
 
 use independent::call_cases::{self, Call};
-use independent::calls::{Answer, Needed};
+use independent::calls::{Answer, Needed, Stand};
 use independent::generate::{fixed_cases, random_case, worst};
 use independent::grid::{Direction, Point, Record, Settings};
 use independent::listing::listing;
@@ -30,7 +30,7 @@ fn cases_have_every_name_of_every_grid_and_every_refusal() {
         for line in text.lines() {
             let words: Vec<&str> = line.split(' ').collect();
             match words[..] {
-                [_, _, _, "holds", name] => {
+                [_, _, _, "holds", name, ..] => {
                     let settings = settings.unwrap();
                     let Settings { mode, k, version, .. } = settings;
                     names.insert((mode, k, version, name.parse::<usize>().unwrap()));
@@ -108,9 +108,12 @@ fn calls_have_every_refusal_every_answer_and_every_point() {
     for case in call_cases::cases(1) {
         seen.insert(match case.answer {
             Ok(Answer::Done) => "done",
-            Ok(Answer::Seeks) => "seeks",
-            Ok(Answer::Holds(_)) => "holds",
-            Ok(Answer::Freed(_)) => "freed",
+            Ok(Answer::Asked(Stand::Seeks)) => "asked, seeks",
+            Ok(Answer::Asked(Stand::Holds(_))) => "asked, holds",
+            Ok(Answer::Turned(Stand::Seeks, _)) => "turned, seeks",
+            Ok(Answer::Turned(Stand::Holds(_), _)) => "turned, holds",
+            Ok(Answer::Freed(_, Some(_))) => "freed, with an access",
+            Ok(Answer::Freed(_, None)) => "freed, with none",
             Err(Refusal::OutOfRange { row: Row::Records, .. }) => "3 records",
             Err(Refusal::OutOfRange { row: Row::X, .. }) => "3 x",
             Err(Refusal::OutOfRange { row: Row::Marks, .. }) => "3 marks",
@@ -144,5 +147,5 @@ fn calls_have_every_refusal_every_answer_and_every_point() {
             });
         }
     }
-    assert_eq!(seen.len(), 16 + 11, "{seen:?}");
+    assert_eq!(seen.len(), 19 + 11, "{seen:?}");
 }

@@ -1,4 +1,4 @@
-//! The listing of 01 byte for byte, and what bad and empty files print.
+//! The listing of 01 byte for byte, with the accesses of 02, P6, and what bad and empty files print.
 
 use independent::generate::edges::listing_of_01;
 use independent::generate::worst::{in_order, worst_schedule, LastWriter};
@@ -11,20 +11,20 @@ const LISTING: &str = "\
 grid 1 2 2
 0 ask 0 seeks
 1 ask 1 seeks
-2 turn 0 seeks
-3 turn 1 seeks
-4 turn 0 seeks
-5 turn 0 seeks
-6 turn 0 seeks
-7 turn 0 seeks
-8 turn 0 holds 2
-9 turn 1 seeks
-10 turn 1 seeks
-11 turn 1 seeks
-12 turn 1 holds 0
-13 free 0 freed 2
+2 turn 0 seeks W X 0 0 1
+3 turn 1 seeks W X 0 0 2
+4 turn 0 seeks R M 0 0 0
+5 turn 0 seeks R M 0 1 0
+6 turn 0 seeks W M 0 0 1
+7 turn 0 seeks R X 0 0 2
+8 turn 0 holds 2 W M 0 0 0
+9 turn 1 seeks R M 0 0 0
+10 turn 1 seeks R M 0 1 0
+11 turn 1 seeks W M 0 1 1
+12 turn 1 holds 0 R X 0 0 2
+13 free 0 freed 2 none
 14 turn 0 refused 15
-15 free 1 freed 0
+15 free 1 freed 0 W M 0 1 0
 end 0 2 6
 ";
 
@@ -62,8 +62,8 @@ fn version_2_names_by_diagonal() {
     let settings = Settings::new(0, 3, 3);
     let events = worst_schedule(settings, &in_order(3), LastWriter::Holds);
     let text = |version| listing(&Grid, &file_of(settings.of_version(version), &events).unwrap());
-    assert!(text(1).starts_with("grid 0 3 3\n") && text(1).contains("turn 1 holds 3\n"));
-    assert_eq!(text(2), text(1).replace("turn 1 holds 3\n", "turn 1 holds 2\n"));
+    assert!(text(1).starts_with("grid 0 3 3\n") && text(1).contains("turn 1 holds 3 R X 2 0 2\n"));
+    assert_eq!(text(2), text(1).replace("turn 1 holds 3 ", "turn 1 holds 2 "));
 }
 
 /// 02, P2: PEAK is the greatest number out, also where no name is given.
@@ -76,7 +76,7 @@ fn peak_counts_seekers_and_holders() {
     events.extend([Event::new(Kind::Turn, 0); 5]);
     events.push(Event::new(Kind::Free, 0));
     let freed = listing(&Grid, &file_of(settings, &events).unwrap());
-    assert!(freed.ends_with("6 turn 0 holds 0\n7 free 0 freed 0\nend 0 2 5\n"));
+    assert!(freed.ends_with("6 turn 0 holds 0 R X 0 0 1\n7 free 0 freed 0 W M 0 0 0\nend 0 2 5\n"));
 }
 
 #[test]
@@ -85,15 +85,15 @@ fn most_counts_only_completed_acquisitions_and_peak_outlasts_releases() {
     let kinds = [(Kind::Ask, 1), (Kind::Ask, 0), (Kind::Free, 1), (Kind::Turn, 65_535)];
     let events = kinds.map(|(kind, id)| Event::new(kind, id));
     let text = listing(&Grid, &file_of(settings, &events).unwrap());
-    let due = "grid 1 2 1\n0 ask 1 holds 0\n1 ask 0 refused 7\n2 free 1 freed 0\n\
+    let due = "grid 1 2 1\n0 ask 1 holds 0\n1 ask 0 refused 7\n2 free 1 freed 0 none\n\
                3 turn 65535 refused 4\nend 0 1 0\n";
     assert_eq!(text, due);
     let settings = Settings::new(1, 9, 2);
     let mut events = vec![Event::new(Kind::Ask, 4)];
     events.extend([Event::new(Kind::Turn, 4); 11]);
     let unfinished = listing(&Grid, &file_of(settings, &events).unwrap());
-    assert!(unfinished.ends_with("11 turn 4 seeks\nend 0 1 0\n"));
+    assert!(unfinished.ends_with("11 turn 4 seeks W M 0 4 1\nend 0 1 0\n"));
     events.push(Event::new(Kind::Turn, 4));
     let finished = listing(&Grid, &file_of(settings, &events).unwrap());
-    assert!(finished.ends_with("12 turn 4 holds 0\nend 1 1 12\n"));
+    assert!(finished.ends_with("12 turn 4 holds 0 R X 0 0 5\nend 1 1 12\n"));
 }

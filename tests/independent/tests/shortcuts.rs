@@ -1,6 +1,6 @@
 //! 01, "Shortcuts that look right": the stories it tells, under the shortcut and under the grid.
 
-use independent::calls::Answer;
+use independent::calls::{Answer, Stand};
 use independent::grid::Settings;
 use independent::history::History;
 use independent::refusal::Refusal;
@@ -28,9 +28,9 @@ fn run<'a>(history: &mut History<'a>, story: &str) -> Result<Answer, Refusal> {
 }
 
 fn held(answer: Result<Answer, Refusal>) -> Option<u32> {
-    match answer {
-        Ok(Answer::Holds(name)) => Some(name.0),
-        _ => None,
+    match answer.ok()?.stand()? {
+        Stand::Holds(name) => Some(name.0),
+        Stand::Seeks => None,
     }
 }
 

@@ -22,5 +22,5 @@ returns-5 c = rw (c .before .enum-told4 .given .1) (c .own-mark2 .ensures)
 pub point-access-spec : {M : Type 1} → statement M
 point-access-spec =
     tie.close (tie.spec (λ c κs. search tests) (λ c. search tests) (λ c. search tests) (λ c. search tests)
-    (λ c. search tests) (λ c. search tests) (λ c. search tests) (λ c κs. search tests) (λ c. search tests)
+    (λ c. search tests) (λ c. search tests) (λ c κs. search tests) (λ c. search tests)
     (λ c. search tests) (λ c κs. search tests) returns returns-2 returns-3 returns-4 returns-5)

@@ -7,7 +7,8 @@ use Rattle.walks.proofs.Prelude.{points-to, refers, sets, lands-in, gives, unde
 use Rattle.machine.specs.{Memory.{Memory, viewOf}, Calls.Outcome}
 use Rattle.machine.specs.declared.{Record.Record, Settings.Settings, TaskId.TaskId, View.View}
 use Rattle.rows.proofs.Functions.{R, task-data, view-data, look-fn}
-use Rattle.rules.specs.Decision.{rows, preparation}
+use Rattle.registers.specs.Touching.{rows}
+use Rattle.rules.specs.Decision.{preparation}
 use Rattle.calls.proofs.Functions.{answer-data, decide-setup-fn, setup-fn}
 use Rattle.calls.proofs.{ByDecision.by-preparation, setup.{Key.name as key, Statement.statement}}
 use Rattle.machine.proofs.TaskId as I

@@ -1,5 +1,6 @@
 -- `step`: look, decide by `rules`, put back.
-use Rattle.walks.proofs.Prelude.{refl, List, [], _∷_, _<_, _^_, arith, length, URA, fullShare, Model, Heap, Lfts}
+use Rattle.walks.proofs.Prelude.{_≡_, refl, subst, Fn, as-it-is, of-type, spelt}
+use Rattle.walks.proofs.Prelude.{List, [], _∷_, _<_, _^_, arith, length, URA, fullShare, Model, Heap, Lfts}
 use Rattle.walks.proofs.Prelude.{Shares, GhostRules, Running, givenOf, Given, named, RefT, Room, owed, emp, id⊢, factI}
 use Rattle.walks.proofs.Prelude.{_$_, !, by, move, of-opd, un, and-then, no-more, Args, Lasts, AllReal, Real, typed}
 use Rattle.walks.proofs.Prelude.{Body, hears, calls, exits, meets, leaves, copies, copies-all, copies-part, points-to}
@@ -8,9 +9,13 @@ use lib.ListN.{set, length-set}
 use Rattle.machine.specs.Memory.{Memory, viewOf}
 use Rattle.machine.specs.declared.{Record.Record, Settings.Settings, TaskId.TaskId, View.View, Event.Event}
 use Rattle.rows.proofs.Functions.{R, record-data, task-data, view-data, look-fn, put-fn}
-use Rattle.rules.specs.{Decision.{rows, Decision, decision}, declared.Decided.Decided}
+use Rattle.registers.specs.Touching.{rows}
+use Rattle.rules.specs.{Decision.{Decision, decision}, declared.Decided.Decided}
 use Rattle.calls.proofs.Functions.{answer-data, decided-data, event-data, decide-fn, step-fn}
 use Rattle.calls.proofs.{ByDecision.{view-sees, by-decision}, step.{Key.name as key, Statement.statement}}
+use Rattle.machine.proofs.Answer as A₁
+use Rattle.machine.proofs.Settings as S
+use Rattle.machine.proofs.View as V₁
 use Rattle.machine.proofs.Event as E
 use Rattle.machine.proofs.Event.Laws as E′
 use Rattle.machine.proofs.TaskId as I
@@ -26,6 +31,18 @@ use Rattle.rules.proofs.decide.Symbol as decide
 use Rattle.rules.proofs.decide.Met as decide-met
 use Rattle.calls.proofs.step as this
 use Rattle.calls.proofs.step.Code as code
+
+-- the code, its types as they are declared
+abbrev routine : Fn
+routine =
+    let same = as-it-is code.function in
+    spelt code.function
+    (of-type A₁.the-row ∷ of-type S.the-row ∷ same 2 ∷ same 3 ∷ same 4 ∷ of-type E.the-row ∷ of-type I.the-row
+    ∷ of-type V₁.the-row ∷ of-type D.the-row ∷ same 9 ∷ same 10 ∷ same 11 ∷ same 12 ∷ same 13 ∷ same 14 ∷ same 15
+    ∷ same 16 ∷ same 17 ∷ same 18 ∷ [])
+
+is-the-code : routine ≡ code.function
+is-the-code = refl
 
 module _ {M : Type 1} (𝓤 : URA M) (H : Heap 𝓤) (𝓜 : Model 𝓤 H) (𝓖 : GhostRules 𝓤 H) (𝓡 : Running 𝓤 H 𝓜)
     (κs : Lfts (this.signature .lifetimes)) (qs : Shares (this.signature .lifetimes))
@@ -87,7 +104,7 @@ module _ {M : Type 1} (𝓤 : URA M) (H : Heap 𝓤) (𝓜 : Model 𝓤 H) (𝓖
   abbrev lasts : Memory → Lasts deciding.ended (κs .1) to
   lasts m = (tt, (tt, (m .xs, (m .marks, (tt, tt)))))
 
-  walk : Body step-fn 𝓤 H 𝓜 𝓖 𝓡 κs qs tt a tt code.env code.function
+  walk : Body step-fn 𝓤 H 𝓜 𝓖 𝓡 κs qs tt a tt code.env routine
   walk l₀ l₁ l₂ l₃ l₄ l₅ l₆ l₇ l₈ l₉ l₁₀ l₁₁ l₁₂ l₁₃ l₁₄ l₁₅ l₁₆ l₁₇ l₁₈ =
       sets ! (of-opd ! (copies-part ! E.the-type refl refl refl)) refl (typed task-data W task task-is .0) $
       sets ! (points-to ! refl refl refl refl) refl (tt, tt) $
@@ -138,4 +155,5 @@ pub step-spec : {M : Type 1} → statement M
 unfolding code.routine
 step-spec 𝓤 H 𝓜 𝓖 𝓡 =
     meets step-fn 𝓤 H 𝓜 𝓖 𝓡 code.env key code.function (code.unfolded 𝓤 H 𝓜 𝓡) (λ κs a t. t)
-    (λ κs qs _ a _ real. walk 𝓤 H 𝓜 𝓖 𝓡 κs qs a real)
+    (λ κs qs _ a _ real. subst (Body step-fn 𝓤 H 𝓜 𝓖 𝓡 κs qs tt a tt code.env) is-the-code
+    (walk 𝓤 H 𝓜 𝓖 𝓡 κs qs a real))

@@ -14,12 +14,12 @@ returns c =
     let c5 = c .before .before in
     let c4 = c5 .before .before in
     let c3 = c4 .before .before .before in
-    let c1 = c3 .before .before .before .before .before .before .before .before .before .before in
+    let c1 = c3 .before .before .before .before .before .before .before .before .before .before .before in
     let a = c1 .before .before .before .before .before .before .before .args in
     let turns = c3 .before .before .turns-after .ensures in
     let answer = c1 .make .result .answer in
     let own = getD (turnsAfter (a .event) answer (a .at .turns)) (a .event .task .0) 0 in
-    let used : c3 .completed .result ≡ completed answer own =
+    let used : c3 .completed .result ≡ completed (answer .told) own =
     c3 .completed .ensures ∙ rw (c3 .before .turns-of .ensures, turns) refl in
     stands-advanced (a .s) (a .position) (a .event) (a .at) (lent (a .at .records) (now (a .xs)) (now (a .marks)))
     (now (a .room)) _ _ _ (c1 .make .ensures) turns

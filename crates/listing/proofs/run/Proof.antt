@@ -17,7 +17,7 @@ Inv-loop file s count room₀ xs₀ marks₀ standing₀ i₀ room xs marks stan
     × (length room ≡ length room₀)
     × (length xs ≡ length xs₀)
     × (length marks ≡ length marks₀)
-    × ((first : List ℕ) → 45 + 31 * count ≤ length first
+    × ((first : List ℕ) → 45 + 56 * count ≤ length first
     → Stands s file 0 standing₀ (lent (standing₀ .records) xs₀ marks₀) first room₀
     → Stands s file i standing (lent (standing .records) xs marks) first room)
 
@@ -54,7 +54,7 @@ advance-requires c κs =
     let few = events-few (now (a .file)) (a .s) (a .count) (pre .0) in (
       tasks-few (now (a .file)) (a .s) (a .count) (pre .0),
       λ p. stands-turns (here at) p (omega arith),
-      stands-room (here at) 31 (search needs),
+      stands-room (here at) 56 (search needs),
     )
 
 add-i : tie.Need-add-i Inv-loop μ-loop

@@ -6,7 +6,8 @@ use borrow.Author.Tests.{eq-eqb, ne-eqb, le-leb, lt-leb}
 use Rattle.machine.specs.{Settings.own, Places.blockNumber, Turn.{releaseAccess, arrive, move, leave}}
 use Rattle.machine.specs.declared.{Settings.Settings, Direction.Direction, Point.the-variants.{WriteX, Clear}}
 use Rattle.machine.specs.declared.State.the-variants.{Seeking, Holding}
-use Rattle.machine.specs.declared.Access.the-variants.{NoAccess, MarkWritten}
+use Rattle.machine.specs.declared.{Register.the-variants.Mark, Op.the-variants.Write}
+use Rattle.machine.specs.declared.Access.the-variants.{NoAccess, Touch}
 
 module _ (s : Settings) (r c : ℕ) where
   -- the edge is held at once
@@ -27,7 +28,7 @@ module _ (s : Settings) (r c : ℕ) where
 
   -- a release clears the own mark of a block
   pub release-clears : (p : ℕ) → r + c + 2 ≤ s .k
-      → MarkWritten (blockNumber s r c) (own s p) 0 ≡ releaseAccess s p (Holding r c)
+      → Touch (Mark (blockNumber s r c) (own s p)) (Write 0) ≡ releaseAccess s p (Holding r c)
   release-clears p b = rw (le-leb (r + c + 2) (s .k) b)
 
   -- and touches nothing on the edge

@@ -11,11 +11,11 @@ use Rattle.machine.specs.{Refusals.{oneTimeRelease, wrongMoment}, Calls.
 use Rattle.machine.specs.declared.{Settings.Settings, Direction.{Direction, the-variants.{Right, Down}}}
 use Rattle.machine.specs.declared.Point.{Point, the-variants.{WriteX, Scan, WriteMark, ReadX, Clear}}
 use Rattle.machine.specs.declared.{State.{State, the-variants.{Idle, Seeking, Holding}}, Record.Record}
-use Rattle.machine.specs.declared.Access.{Access, the-variants.{NoAccess, XRead, XWritten, MarkRead, MarkWritten}}
+use Rattle.machine.specs.declared.Access.{Access}
 use Rattle.machine.specs.declared.Kind.{Kind, the-variants.{Ask, Turn, Release}}
 use Rattle.machine.specs.promises.Ranges.{WithinLimits}
 use Rattle.counting.proofs.Bools.{and-l, and-r}
-use Rattle.machine.proofs.refusals.{Limits.mode-most, Passed.Fit}
+use Rattle.machine.proofs.{refusals.{Limits.mode-most, Passed.Fit}, calls.Effects.store-records}
 use Rattle.machine.proofs.bridge.Turning.{scan-marked, scan-done, scan-on, reads-own, reads-other}
 use Rattle.machine.proofs.bridge.AsGrid.{wayOf, own-below, rulesOf, stageOf, standOf, xAt, markAt, gridOf}
 use Rattle.machine.proofs.bridge.AsGrid.{x-on-block, mark-on-block, x-put, mark-put}
@@ -73,11 +73,7 @@ module _ (s : Settings) (l : WithinLimits s) where
 -- an access leaves the records, into which the call puts the next one
 records-after : (s : Settings) (access : Access) (m : Memory) (p : ℕ) (new : Record)
     → withRecord p new (store s access m) .records ≡ set (m .records) p new
-records-after s NoAccess m p new = refl
-records-after s (XRead b) m p new = refl
-records-after s (XWritten b v) m p new = refl
-records-after s (MarkRead b place) m p new = refl
-records-after s (MarkWritten b place v) m p new = refl
+records-after s access m p new = ap (λ (records : List Record). set records p new) (store-records s m access)
 
 module _ (s : Settings) (l : WithinLimits s) (m : Memory) (h : Fit s m) (p : ℕ) (below : p < s .n) where
   abbrev rules : Rules

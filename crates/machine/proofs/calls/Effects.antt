@@ -1,17 +1,20 @@
 -- What shows of a call's access: of X and marks the register read alone bears on the answer and the next record, and
 -- the register written alone changes.
-use mathlib.Core.{Path.{_≡_, refl, sym, ap, ap₂, subst, _∙_}, Bool.not, List.List}
+use mathlib.Core.{Path.{_≡_, refl, sym, ap, subst, _∙_}, Bool.{Bool, true, false, not, cond}, List.List}
 use Prim.Native.Nat.{ℕ}
 use native.Mathlib.Omega.{arith}
 use lib.{Dec.T, ListN.{set, length-set}, Seq.{getD-set-same, getD-set-other}}
-use Rattle.machine.specs.{Records.idle, Memory.{Memory, markIndex, recordOf, stateOf, withRecord}}
-use Rattle.machine.specs.{Turn.{access, value, store, next}, Calls.{Outcome, answerOf, nextState}}
+use Rattle.machine.specs.{Records.idle, Memory.{Memory, markIndex, recordOf, stateOf, withRecord, content, put}}
+use Rattle.machine.specs.Turn.{opReads, opWrites, left, access, value, store, shownBy, next}
+use Rattle.machine.specs.Calls.{Outcome, toldOf, nextState, shownOf, call}
 use Rattle.machine.specs.declared.{Settings.Settings, State.State, Record.Record}
-use Rattle.machine.specs.declared.Access.{Access, the-variants.{NoAccess, XRead, XWritten, MarkRead, MarkWritten}}
-use Rattle.machine.specs.declared.{Kind.Kind, Event.Event}
-use Rattle.machine.specs.promises.OneAccess.{RegisterNeeded, accessOf, AcceptedIn, reads, SameRead, SameEnd}
-use Rattle.machine.specs.promises.OneAccess.{OnlyTheRegisterReadBears, WritesX, WritesMark, HasWritten}
-use Rattle.machine.specs.promises.OneAccess.{ChangesOnly, WrittenChanges, OnlyTheRegisterWrittenChanges}
+use Rattle.machine.specs.declared.{Register.{Register, the-variants.{X, Mark}}, Op.{Op, the-variants.{Read, Write}}}
+use Rattle.machine.specs.declared.Access.{Access, the-variants.{NoAccess, Touch}}
+use Rattle.machine.specs.declared.{Kind.Kind, Event.Event, Shown.Shown}
+use Rattle.machine.specs.promises.OneAccess.{Needed, RegisterNeeded, accessOf, AcceptedIn, reads, SameRead}
+use Rattle.machine.specs.promises.OneAccess.{SameEnd, OnlyTheRegisterReadBears, AtX, AtMark, WritesX, WritesMark}
+use Rattle.machine.specs.promises.OneAccess.{HasWritten, ChangesOnly, WrittenChanges}
+use Rattle.machine.specs.promises.OneAccess.{OnlyTheRegisterWrittenChanges, Shows, EachShows}
 use Rattle.machine.proofs.refusals.{Refusing.ruled, Passing.{passed, by-the-rules}, Passed.{Passed, Fit}}
 use Rattle.machine.proofs.calls.OneAccess.{call-needed}
 
@@ -24,44 +27,79 @@ module _ {A : Type 0} where
   set-row : (l : List A) (i : ℕ) (a : A) → ChangesOnly (λ j. j ≡ i) l (set l i a)
   set-row l i a = record { long = length-set l i a; others = λ j d other. getD-set-other l i j a d other }
 
+  wider : {few many : ℕ → Type 0} {l after : List A} → ((i : ℕ) → few i → many i) → ChangesOnly few l after
+      → ChangesOnly many l after
+  wider f c = record { long = c .long; others = λ i d other. c .others i d (λ e. other (f i e)) }
+
 module _ (s : Settings) (m : Memory) where
+  -- one register written
+  put-records : (register : Register) (v : ℕ) → put s register v m .records ≡ m .records
+  put-records (X block) v = refl
+  put-records (Mark block place) v = refl
+
+  put-xs : (register : Register) (v : ℕ) → ChangesOnly (AtX register) (m .xs) (put s register v m .xs)
+  put-xs (X block) v = set-row (m .xs) block v
+  put-xs (Mark block place) v = same-row _ (m .xs)
+
+  put-marks : (register : Register) (v : ℕ) → ChangesOnly (AtMark s register) (m .marks) (put s register v m .marks)
+  put-marks (X block) v = same-row _ (m .marks)
+  put-marks (Mark block place) v = set-row (m .marks) (markIndex s block place) v
+
+  put-content : (register : Register) (v : ℕ) → Fit s m → Needed s register
+      → content s register (put s register v m) ≡ v
+  put-content (X block) v fit h = getD-set-same (m .xs) block v 0 (let long = fit .long .xs in omega arith)
+  put-content (Mark block place) v fit h =
+      getD-set-same (m .marks) (markIndex s block place) v 0 (let long = fit .long .marks in omega arith)
+
+  content-with : (register : Register) (p : ℕ) (new : Record) (after : Memory)
+      → content s register (withRecord p new after) ≡ content s register after
+  content-with (X block) p new after = refl
+  content-with (Mark block place) p new after = refl
+
+  -- one access: what the operation leaves is written, or nothing is
+  abbrev leftBy : Register → Op → Bool → Memory
+  leftBy register op writes = cond writes (put s register (left op (content s register m)) m) m
+
   pub store-records : (a : Access) → store s a m .records ≡ m .records
   store-records NoAccess = refl
-  store-records (XRead block) = refl
-  store-records (XWritten block v) = refl
-  store-records (MarkRead block place) = refl
-  store-records (MarkWritten block place v) = refl
+  store-records (Touch register op) = go (opWrites op)
+    where
+      go : (writes : Bool) → leftBy register op writes .records ≡ m .records
+      go true = put-records register _
+      go false = refl
 
   store-xs : (a : Access) → ChangesOnly (WritesX a) (m .xs) (store s a m .xs)
   store-xs NoAccess = same-row _ (m .xs)
-  store-xs (XRead block) = same-row _ (m .xs)
-  store-xs (XWritten block v) = set-row (m .xs) block v
-  store-xs (MarkRead block place) = same-row _ (m .xs)
-  store-xs (MarkWritten block place v) = same-row _ (m .xs)
+  store-xs (Touch register op) = go (opWrites op)
+    where
+      go : (writes : Bool)
+          → ChangesOnly (λ b. T writes × AtX register b) (m .xs) (leftBy register op writes .xs)
+      go true = wider (λ b e. (tt, e)) (put-xs register _)
+      go false = same-row _ (m .xs)
 
   store-marks : (a : Access) → ChangesOnly (WritesMark s a) (m .marks) (store s a m .marks)
   store-marks NoAccess = same-row _ (m .marks)
-  store-marks (XRead block) = same-row _ (m .marks)
-  store-marks (XWritten block v) = same-row _ (m .marks)
-  store-marks (MarkRead block place) = same-row _ (m .marks)
-  store-marks (MarkWritten block place v) = set-row (m .marks) (markIndex s block place) v
+  store-marks (Touch register op) = go (opWrites op)
+    where
+      go : (writes : Bool)
+          → ChangesOnly (λ i. T writes × AtMark s register i) (m .marks) (leftBy register op writes .marks)
+      go true = wider (λ i e. (tt, e)) (put-marks register _)
+      go false = same-row _ (m .marks)
 
-  stands : (a : Access) → Fit s m → RegisterNeeded s a → HasWritten s a (store s a m)
+  stands : (a : Access) → Fit s m → RegisterNeeded s a → HasWritten s a m (store s a m)
   stands NoAccess fit h = tt
-  stands (XRead block) fit h = tt
-  stands (XWritten block v) fit h = getD-set-same (m .xs) block v 0 (let long = fit .long .xs in omega arith)
-  stands (MarkRead block place) fit h = tt
-  stands (MarkWritten block place v) fit h =
-      getD-set-same (m .marks) (markIndex s block place) v 0 (let long = fit .long .marks in omega arith)
+  stands (Touch register op) fit h = go (opWrites op)
+    where
+      go : (writes : Bool) → T writes
+          → content s register (leftBy register op writes) ≡ left op (content s register m)
+      go true t = put-content register _ fit h
+      go false t = absurd t
 
   -- a record put in beside it leaves what was written
-  stands-with : (a : Access) (p : ℕ) (new : Record) (m′ : Memory) → HasWritten s a m′
-      → HasWritten s a (withRecord p new m′)
-  stands-with NoAccess p new m′ h = h
-  stands-with (XRead block) p new m′ h = h
-  stands-with (XWritten block v) p new m′ h = h
-  stands-with (MarkRead block place) p new m′ h = h
-  stands-with (MarkWritten block place v) p new m′ h = h
+  stands-with : (a : Access) (p : ℕ) (new : Record) (after : Memory) → HasWritten s a m after
+      → HasWritten s a m (withRecord p new after)
+  stands-with NoAccess p new after h = h
+  stands-with (Touch register op) p new after h = λ t. content-with register p new after ∙ h t
 
 -- ---- only the register written changes
 
@@ -96,17 +134,13 @@ only-the-register-written-changes s event m t =
 
 same-value : (s : Settings) (m m′ : Memory) (a : Access) → SameRead s a m m′ → value s a m ≡ value s a m′
 same-value s m m′ NoAccess same = refl
-same-value s m m′ (XRead block) same = same
-same-value s m m′ (XWritten block v) same = refl
-same-value s m m′ (MarkRead block place) same = same
-same-value s m m′ (MarkWritten block place v) same = refl
+same-value s m m′ (Touch register Read) same = same tt
+same-value s m m′ (Touch register (Write v)) same = refl
 
 unread-same : (s : Settings) (m m′ : Memory) (a : Access) → T (not (reads a)) → SameRead s a m m′
 unread-same s m m′ NoAccess t = tt
-unread-same s m m′ (XRead block) t = absurd t
-unread-same s m m′ (XWritten block v) t = tt
-unread-same s m m′ (MarkRead block place) t = absurd t
-unread-same s m m′ (MarkWritten block place v) t = tt
+unread-same s m m′ (Touch register Read) t = absurd t
+unread-same s m m′ (Touch register (Write v)) t = λ read. absurd read
 
 -- the next state, from one state and one value read
 same-next : (s : Settings) (kind : Kind) (p : ℕ) (state state′ : State) (m m′ : Memory) → state ≡ state′
@@ -116,6 +150,14 @@ same-next s kind p state state′ m m′ e same =
     ap (next s kind p state) (same-value s m m′ (access s kind p state) same)
     ∙ ap (λ (st : State). nextState s kind p st m′) e
 
+-- and what is shown
+same-shown : (s : Settings) (kind : Kind) (p : ℕ) (state state′ : State) (m m′ : Memory) → state ≡ state′
+    → SameRead s (access s kind p state) m m′
+    → shownOf s kind p state m ≡ shownOf s kind p state′ m′
+same-shown s kind p state state′ m m′ e same =
+    ap (shownBy (access s kind p state)) (same-value s m m′ (access s kind p state) same)
+    ∙ ap (λ (st : State). shownOf s kind p st m′) e
+
 same-end : (s : Settings) (event : Event) (m m′ : Memory) → AcceptedIn s event m → AcceptedIn s event m′
     → recordOf m (event .task .0) ≡ recordOf m′ (event .task .0) → SameRead s (accessOf s event m) m m′
     → SameEnd s event m m′
@@ -123,12 +165,14 @@ same-end s event m m′ t t′ e same =
     let p = event .task .0 in
     let before = ap (λ (r : Record). r .state) e in
     let after = same-next s (event .kind) p _ _ m m′ before same in
+    let shown = same-shown s (event .kind) p _ _ m m′ before same in
     let rules = by-the-rules s event m t in
     let rules′ = by-the-rules s event m′ t′ in
     let put = next-in-place s event m (passed s event m t) in
     let put′ = next-in-place s event m′ (passed s event m′ t′) in
     record {
-      answer = ap (λ (o : Outcome). o .answer) rules ∙ ap₂ (answerOf s (event .kind)) before after
+      answer = ap (λ (o : Outcome). o .answer) rules
+          ∙ (λ i. record { told = toldOf s (event .kind) (before i) (after i); shown = shown i })
           ∙ sym (ap (λ (o : Outcome). o .answer) rules′);
       next-record =
           ap (λ (o : Outcome). recordOf (o .memory) p) rules
@@ -143,3 +187,63 @@ only-the-register-read-bears s event m m′ t t′ e = record {
   register-read = same-end s event m m′ t t′ e;
   nothing-read = λ u. same-end s event m m′ t t′ e (unread-same s m m′ (accessOf s event m) u);
 }
+
+-- ---- what is shown is the access
+
+module _ (s : Settings) (event : Event) (m : Memory) (t : AcceptedIn s event m) where
+  abbrev ended : Memory
+  ended = call s event m .memory
+
+  abbrev shown : Shown
+  shown = shownOf s (event .kind) (event .task .0) (stateOf m (event .task .0)) m
+
+  shown-answered : call s event m .answer .shown ≡ shown
+  shown-answered = ap (λ (o : Outcome). o .answer .shown) (by-the-rules s event m t)
+
+  -- a row that changes nowhere is the same
+  abbrev rows-after : WrittenChanges s event m ended
+  rows-after = only-the-register-written-changes s event m t
+
+  bearing : (m′ : Memory) → AcceptedIn s event m′ → recordOf m (event .task .0) ≡ recordOf m′ (event .task .0)
+      → SameRead s (accessOf s event m) m m′ → SameEnd s event m m′
+  bearing m′ t′ e same = same-end s event m m′ t t′ e same
+
+  ended-stored : ended ≡ withRecord (event .task .0)
+      (record { state = nextState s (event .kind) (event .task .0) (stateOf m (event .task .0)) m })
+      (store s (accessOf s event m) m)
+  ended-stored = ap (λ (o : Outcome). o .memory) (by-the-rules s event m t)
+
+  shows : (a : Access) → accessOf s event m ≡ a → Shows s event m (shownBy a (value s a m))
+  shows NoAccess is = (
+    record { xs = xs-same; marks = marks-same },
+    λ m′ t′ e. bearing m′ t′ e (rw is tt),
+  )
+    where
+      xs-same : ended .xs ≡ m .xs
+      xs-same = rw (ended-stored, is)
+
+      marks-same : ended .marks ≡ m .marks
+      marks-same = rw (ended-stored, is)
+  shows (Touch register Read) is = record {
+    needed = rw is at needed;
+    had = refl;
+    bears = λ m′ t′ e has. bearing m′ t′ e (rw is (λ read. sym has));
+    unchanged = record { xs = rw (ended-stored, is); marks = rw (ended-stored, is) };
+  }
+    where
+      needed : RegisterNeeded s (accessOf s event m)
+      needed = call-needed s event m (passed s event m t)
+  shows (Touch register (Write v)) is = record {
+    needed = rw is at needed;
+    has = (rw is at (rows-after .written)) tt;
+    xs = wider (λ b e. e .1) (rw is at (rows-after .xs));
+    marks = wider (λ i e. e .1) (rw is at (rows-after .marks));
+    bears = λ m′ t′ e. bearing m′ t′ e (rw is (λ read. absurd read));
+  }
+    where
+      needed : RegisterNeeded s (accessOf s event m)
+      needed = call-needed s event m (passed s event m t)
+
+pub each-shows : EachShows
+each-shows s event m t =
+    subst (Shows s event m) (sym (shown-answered s event m t)) (shows s event m t (accessOf s event m) refl)

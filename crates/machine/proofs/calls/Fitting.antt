@@ -4,18 +4,20 @@
 use mathlib.Core.{Path.{_≡_, refl, subst}, Bool.{Bool, false}, List.{List, [], _∷_}}
 use Prim.Native.Nat.{ℕ, zero, suc, _+_, _≤_, _<_}
 use native.Mathlib.{Decide.{decLe, ℕ-discrete}, Omega.arith}
-use lib.{Dec.{T, leb, leb→le, ltb→lt, le→leb, lt→ltb}, ListN.{getD, set, length-set}}
+use lib.{Dec.{T, leb, leb→le, ltb→lt, le→leb, lt→ltb, lit≤}, ListN.{getD, set, length-set}}
 use borrow.Author.Tests.{eq-eqb}
 use Rattle.machine.specs.{Settings.width, Records.{idle, pointInRange, stateInRange, recordInRange}}
-use Rattle.machine.specs.Memory.{Memory, markIndex, stateOf, withRecord, withX, withMark, xInRange, markInRange}
+use Rattle.machine.specs.Memory.{Memory, markIndex, stateOf, withRecord, withX, withMark, put}
+use Rattle.machine.specs.Memory.{xInRange, markInRange}
 use Rattle.machine.specs.Turn.{access, pointAccess, value, store, arrive, move, leave, pointTurned}
 use Rattle.machine.specs.{Refusals.wrongMoment, Calls.{nextState, accept}}
 use Rattle.machine.specs.declared.{Settings.Settings, Direction.{Direction, the-variants.{Right, Down}}}
 use Rattle.machine.specs.declared.Point.{Point, the-variants.{WriteX, Scan, WriteMark, ReadX, Clear}}
 use Rattle.machine.specs.declared.{State.{State, the-variants.{Idle, Seeking, Holding}}, Record.Record}
-use Rattle.machine.specs.declared.Access.{Access, the-variants.{NoAccess, XRead, XWritten, MarkRead, MarkWritten}}
+use Rattle.machine.specs.declared.{Register.{Register, the-variants.{X, Mark}}, Op.the-variants.{Read, Write}}
+use Rattle.machine.specs.declared.Access.{Access, the-variants.{NoAccess, Touch}}
 use Rattle.machine.specs.declared.Kind.{Kind, the-variants.{Ask, Turn, Release}}
-use Rattle.machine.specs.promises.Ranges.{WithinLimits}
+use Rattle.machine.specs.promises.{Ranges.WithinLimits, OneAccess.{Takes, Writable}}
 use Rattle.machine.proofs.refusals.{Passed.Fit, Limits.{mode-most, width-least}}
 use Rattle.machine.proofs.bridge.Turning.{scan-marked, scan-done, scan-on, reads-own, reads-other}
 use Rattle.machine.proofs.bridge.Arriving.{arrive-edge, arrive-block, leave-at-once, leave-clearing}
@@ -23,14 +25,6 @@ use Rattle.machine.proofs.bridge.Arriving.{release-clears, release-noth
 use Rattle.counting.proofs.Bools.{and-in, and-l, and-r}
 
 -- ---- what a call writes is in range
-
--- an access that writes an X or a mark in range, or nothing
-abbrev Writes : Settings → Access → Type 0
-Writes s NoAccess = Unit {0}
-Writes s (XRead block) = Unit {0}
-Writes s (XWritten block v) = T (xInRange s v)
-Writes s (MarkRead block place) = Unit {0}
-Writes s (MarkWritten block place v) = T (markInRange v)
 
 module _ (s : Settings) (l : WithinLimits s) where
   block-in-range : (r c : ℕ) (point : Point) → r + c + 2 ≤ s .k → T (pointInRange s point)
@@ -93,22 +87,22 @@ module _ (s : Settings) (l : WithinLimits s) where
   next-in-range Turn p (Holding r c) m e t = t
   next-in-range Release p state m e t = tt
 
-  access-writes : (kind : Kind) (p : ℕ) (state : State) → p < s .n → Writes s (access s kind p state)
+  pub access-writes : (kind : Kind) (p : ℕ) (state : State) → p < s .n → Writable s (access s kind p state)
   access-writes Ask p state h = tt
   access-writes Turn p Idle h = tt
-  access-writes Turn p (Seeking r c WriteX) h = le→leb (p + 1) (s .n) (omega arith)
+  access-writes Turn p (Seeking r c WriteX) h = let low : p + 1 ≤ s .n = omega arith in low
   access-writes Turn p (Seeking r c (Scan i)) h = tt
-  access-writes Turn p (Seeking r c WriteMark) h = tt
+  access-writes Turn p (Seeking r c WriteMark) h = lit≤ tt
   access-writes Turn p (Seeking r c ReadX) h = tt
-  access-writes Turn p (Seeking r c (Clear d)) h = tt
+  access-writes Turn p (Seeking r c (Clear d)) h = lit≤ tt
   access-writes Turn p (Holding r c) h = tt
   access-writes Release p Idle h = tt
   access-writes Release p (Seeking r c point) h = tt
   access-writes Release p (Holding r c) h = go (decLe (r + c + 2) (s .k))
     where
-      go : Dec (r + c + 2 ≤ s .k) → Writes s (access s Release p (Holding r c))
-      go (yes b) = subst (Writes s) (release-clears s r c p b) tt
-      go (no b) = subst (Writes s) (release-nothing s r c p (omega arith)) tt
+      go : Dec (r + c + 2 ≤ s .k) → Writable s (access s Release p (Holding r c))
+      go (yes b) = subst (Writable s) (release-clears s r c p b) (lit≤ tt)
+      go (no b) = subst (Writable s) (release-nothing s r c p (omega arith)) tt
 
 -- ---- and so is the memory that it leaves
 
@@ -163,16 +157,14 @@ module _ (s : Settings) (m : Memory) (h : Fit s m) where
     };
   }
 
-  -- a mark that is written is that mark and no other
-  mark-stored : (b place v : ℕ) → withMark (markIndex s b place) v m ≡ store s (MarkWritten b place v) m
-  mark-stored b place v = refl
+  put-fits : (register : Register) (v : ℕ) → Takes s register v → Fit s (put s register v m)
+  put-fits (X block) v w = x-fits block v (le→leb v (s .n) w)
+  put-fits (Mark block place) v w = mark-fits (markIndex s block place) v (le→leb v 1 w)
 
-  store-fits : (access : Access) → Writes s access → Fit s (store s access m)
+  store-fits : (access : Access) → Writable s access → Fit s (store s access m)
   store-fits NoAccess w = h
-  store-fits (XRead b) w = h
-  store-fits (XWritten b v) w = x-fits b v w
-  store-fits (MarkRead b place) w = h
-  store-fits (MarkWritten b place v) w = subst (Fit s) (mark-stored b place v) (mark-fits (markIndex s b place) v w)
+  store-fits (Touch register Read) w = h
+  store-fits (Touch register (Write v)) w = put-fits register v w
 
 pub accept-fits : (s : Settings) → WithinLimits s → (kind : Kind) (p : ℕ) (m : Memory) → Fit s m → p < s .n
     → wrongMoment kind (stateOf m p) ≡ false

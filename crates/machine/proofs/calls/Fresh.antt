@@ -6,9 +6,9 @@ use lib.Dec.{le→leb}
 use lib.ListN.{length, getD, replicate, drop, length-append, length-replicate, getD-replicate, List·getD-append}
 use Rattle.machine.specs.{Places.blocks, Records.isOut}
 use Rattle.machine.specs.Memory.{Memory, marksNeeded, stateOf, outOf, viewOf, fill}
-use Rattle.machine.specs.{Refusals.setupVerdict, Answers.said, Calls.{refuseOr, cleared, setup}}
+use Rattle.machine.specs.{Refusals.setupVerdict, Answers.{said, plain}, Calls.{refuseOr, cleared, setup}}
 use Rattle.machine.specs.promises.{Demands.SetUp, Ranges.WithinLimits, Refusing.{NoneHolds, setupLines}}
-use Rattle.machine.specs.declared.{Settings.Settings, State.the-variants.Idle, Verdict.Verdict, Answer.Answer}
+use Rattle.machine.specs.declared.{Settings.Settings, State.the-variants.Idle, Verdict.Verdict, Told.Told, Answer.Answer}
 use Rattle.counting.proofs.{Tested.{misses, cannot-fail}, Searching.count-none}
 use Rattle.machine.proofs.refusals.{Lines.{short-line, idle-tested}, Refusing.{within, started, setup-exactly}}
 use Rattle.machine.proofs.refusals.Passed.{Long, Fit, none-short-long}
@@ -44,10 +44,12 @@ module _ (s : Settings) (lent : Memory) (ok : SetUp s lent) where
   pub setup-memory : setup s lent .memory ≡ cleared s lent
   setup-memory = go (setupVerdict s (viewOf s (lent .records) 0) lent) ok
     where
-      go : (v : Verdict) → refuseOr v lent (started s lent) .answer ≡ Answer.Done
+      go : (v : Verdict) → refuseOr v lent (started s lent) .answer ≡ plain Told.Done
           → refuseOr v lent (started s lent) .memory ≡ cleared s lent
       go Verdict.Accepted e = refl
-      go (Verdict.Refused why) e = absurd (let z : _≡_ {A = ℕ} 0 1 = cc in omega arith)
+      go (Verdict.Refused why) e =
+          let told : Told.Refused why ≡ Told.Done = ap (λ (answer : Answer). answer .told) e in
+          absurd (let z : _≡_ {A = ℕ} 0 1 = cc in omega arith)
 
   pub fresh-fit : Fit s (setup s lent .memory)
   fresh-fit = rw setup-memory (record {

@@ -10,17 +10,18 @@ use Rattle.machine.specs.{Memory.{Memory, stateOf}, Turn.{pointAccess, a
 use Rattle.machine.specs.declared.Settings.{Settings}
 use Rattle.machine.specs.declared.Point.{Point, the-variants.{WriteX, Scan, WriteMark, ReadX, Clear}}
 use Rattle.machine.specs.declared.State.{State, the-variants.{Idle, Seeking, Holding}}
-use Rattle.machine.specs.declared.Access.the-variants.{NoAccess, MarkWritten}
+use Rattle.machine.specs.declared.{Register.the-variants.Mark, Op.the-variants.Write}
+use Rattle.machine.specs.declared.Access.the-variants.{NoAccess, Touch}
 use Rattle.machine.specs.declared.{Kind.{Kind, the-variants.{Ask, Turn, Release}}, Event.Event}
 use Rattle.machine.specs.promises.Ranges.{WithinLimits, StateWithin}
-use Rattle.machine.specs.promises.OneAccess.{MarkNeeded, touches, RegisterNeeded, EachOneAccess, accessOf}
+use Rattle.machine.specs.promises.OneAccess.{Needed, touches, RegisterNeeded, EachOneAccess, accessOf}
 use Rattle.machine.proofs.refusals.{Ranges.scans-a-mark, Lines.{point-line, state-line}, Passed.Passed}
 use Rattle.machine.proofs.bridge.AsGrid.{own-below, block-below, mark-below}
 
 -- ---- which register
 
 module _ (s : Settings) (l : WithinLimits s) (p : ℕ) (low : p < s .n) where
-  needed-mark : (r c place : ℕ) → r + c + 2 ≤ s .k → place < width s → MarkNeeded s (blockNumber s r c) place
+  needed-mark : (r c place : ℕ) → r + c + 2 ≤ s .k → place < width s → Needed s (Mark (blockNumber s r c) place)
   needed-mark r c place b h = (block-below s l r c b, h, mark-below s l r c place b h)
 
   point-one : (r c : ℕ) (point : Point) → r + c + 2 ≤ s .k → T (pointInRange s point)
@@ -53,7 +54,7 @@ module _ (s : Settings) (l : WithinLimits s) (p : ℕ) (low : p < s .n) where
   release-needed r c = go (leb (r + c + 2) (s .k)) refl
     where
       go : (b : Bool) → leb (r + c + 2) (s .k) ≡ b
-          → RegisterNeeded s (cond b (MarkWritten (blockNumber s r c) (own s p) 0) NoAccess)
+          → RegisterNeeded s (cond b (Touch (Mark (blockNumber s r c) (own s p)) (Write 0)) NoAccess)
       go true e = one-access s l p low .release-block r c (leb-true (r + c + 2) (s .k) e) .1
       go false e = tt
 

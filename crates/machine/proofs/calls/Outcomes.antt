@@ -1,12 +1,12 @@
 -- The two outcomes of a call on a fit memory: the task may and it is accepted, or it is refused and changes nothing.
 use mathlib.Core.{Path.{_≡_, refl, sym, subst}, Bool.{Bool, true, false}, List.{[], _∷_}}
 use borrow.Author.Tests.{lt-leb, leb-false}
-use Rattle.machine.specs.{Memory.{Memory, stateOf, outOf}, Answers.isAccepted}
+use Rattle.machine.specs.{Memory.{Memory, stateOf, outOf}, Answers.{isAccepted, plain}}
 use Rattle.machine.specs.Refusals.{first, when, noSuchTask, oneTimeRelease, wrongMoment, moment, tooManyOut}
 use Rattle.machine.specs.Calls.{Outcome, refuseOr, call}
 use Rattle.machine.specs.declared.{Settings.Settings, Event.Event}
 use Rattle.machine.specs.declared.Refusal.{Refusal, the-variants.{NoSuchTask, OneTime, TooManyOut}}
-use Rattle.machine.specs.declared.{Verdict.Verdict, Answer.Answer}
+use Rattle.machine.specs.declared.{Verdict.Verdict, Told.Told}
 use Rattle.machine.specs.promises.Ranges.{WithinLimits}
 use Rattle.machine.proofs.refusals.{Passed.{Fit, May, fit-verdict}, Refusing.{ruled, ruled-accepted}}
 use Rattle.counting.proofs.Bools.{is-true}
@@ -16,7 +16,7 @@ accepted-answer s event m = is-true _ (ruled-accepted s event m)
 
 pub data Called (s : Settings) (event : Event) (m : Memory) : Outcome → Type 0 where
   taken : May s event m → Called s event m (ruled s event m)
-  refused : (why : Refusal) → Called s event m (record { answer = Answer.Refused why; memory = m })
+  refused : (why : Refusal) → Called s event m (record { answer = plain (Told.Refused why); memory = m })
 
 module _ (s : Settings) (l : WithinLimits s) (event : Event) (m : Memory) (fit : Fit s m) where
   -- the tests of the task

@@ -5,9 +5,9 @@ use Prim.Native.Nat.{ℕ, zero, suc, _≤_, _<_}
 use native.Mathlib.{Nat.{not-suc-le-zero, le-of-suc-le-suc}, Omega.arith}
 use lib.{Dec.T, ListN.{length, getD, take, replicate}}
 use Rattle.machine.specs.{Places.blocks, Records.idle, Memory.{Memory, marksNeeded, viewOf}}
-use Rattle.machine.specs.{Refusals.setupVerdict, Answers.{said, isAccepted}, Calls.{refuseOr, setup}}
+use Rattle.machine.specs.{Refusals.setupVerdict, Answers.{said, isAccepted, plain}, Calls.{refuseOr, setup}}
 use Rattle.machine.specs.declared.{Settings.Settings, State.{State, the-variants.Idle}, Record.Record}
-use Rattle.machine.specs.declared.{Verdict.Verdict, Answer.Answer}
+use Rattle.machine.specs.declared.{Verdict.Verdict, Told.Told, Answer.Answer}
 use Rattle.machine.specs.promises.{Refusing.{NoneHolds, setupLines, setupSays}, Surplus.needed}
 use Rattle.machine.specs.promises.SettingUp.{clear, EachSetupClears}
 use Rattle.machine.proofs.calls.{Fresh.{setup-memory, lent-long, lent-idle}, Surplus.{same-rows, fill-needed}}
@@ -24,18 +24,18 @@ all-idle (first ∷ records) (suc n) long each =
 
 module _ (s : Settings) (m : Memory) where
   -- what an accepted setup answers
-  accepted-done : setupSays s m .number ≡ 0 → setup s m .answer ≡ Answer.Done
+  accepted-done : setupSays s m .number ≡ 0 → setup s m .answer ≡ plain Told.Done
   accepted-done e = go (setupVerdict s (viewOf s (m .records) 0) m) (accepted-zero (setup s m .answer) .1 e)
     where
       go : (verdict : Verdict) → T (isAccepted (refuseOr verdict m (started s m) .answer))
-          → refuseOr verdict m (started s m) .answer ≡ Answer.Done
+          → refuseOr verdict m (started s m) .answer ≡ plain Told.Done
       go Verdict.Accepted t = refl
       go (Verdict.Refused why) t = absurd t
 
-  lent-done : NoneHolds (setupLines s m) → setup s m .answer ≡ Answer.Done
+  lent-done : NoneHolds (setupLines s m) → setup s m .answer ≡ plain Told.Done
   lent-done none = accepted-done (setup-exactly s m .accepted .1 none)
 
-  done-lent : setup s m .answer ≡ Answer.Done → NoneHolds (setupLines s m)
+  done-lent : setup s m .answer ≡ plain Told.Done → NoneHolds (setupLines s m)
   done-lent e = setup-exactly s m .accepted .0 (ap (λ (answer : Answer). said answer .number) e)
 
   clears : NoneHolds (setupLines s m) → needed s (setup s m .memory) ≡ clear s

@@ -1,19 +1,23 @@
 -- The surplus: no call writes there, and a call on the needed part alone goes as on the whole.
-use mathlib.Core.{Path.{_≡_, refl, sym, ap, ap₂, _∙_}, List.{List, append-nil}}
+use mathlib.Core.{Path.{_≡_, refl, sym, ap, ap₂, _∙_}, Bool.{Bool, true, false, cond}, List.{List, append-nil}}
 use Prim.Native.Nat.{ℕ, _≤_, _<_, min}
 use native.Mathlib.{Omega.arith, Decide.decLe}
 use lib.{Dec.ltb, ListN.{length, take, drop, replicate, length-take, length-replicate, drop-of-length-le}}
 use lib.Seq.{drop-set-lt, take-set-lt, getD-take, take-at, drop-at}
 use borrow.Author.Tests.{lt-ltb, le-ltb, le-leb}
 use Rattle.machine.specs.{Places.blocks, Records.{idle, isOut, recordInRange}}
-use Rattle.machine.specs.Memory.{Memory, marksNeeded, markIndex, stateOf, withRecord, xInRange, markInRange}
+use Rattle.machine.specs.Memory.{Memory, marksNeeded, markIndex, stateOf, withRecord, content, put}
+use Rattle.machine.specs.Memory.{xInRange, markInRange}
 use Rattle.machine.specs.Memory.{badRecord, badX, badMark, outOf, viewOf, fill}
-use Rattle.machine.specs.{Turn.{access, value, store, next}, Refusals.{rowShort, setupVerdict}}
-use Rattle.machine.specs.Calls.{Outcome, answerOf, nextState, accept, refuseOr, verdictOf, call, cleared, setup}
+use Rattle.machine.specs.Turn.{opWrites, seen, left, access, value, store, shownBy, next}
+use Rattle.machine.specs.{Refusals.{rowShort, setupVerdict}, Answers.plain}
+use Rattle.machine.specs.Calls.{Outcome, toldOf, nextState, shownOf, accept, refuseOr, verdictOf, call}
+use Rattle.machine.specs.Calls.{cleared, setup}
 use Rattle.machine.specs.declared.{Settings.Settings, State.State, Record.Record}
-use Rattle.machine.specs.declared.Access.{Access, the-variants.{NoAccess, XRead, XWritten, MarkRead, MarkWritten}}
-use Rattle.machine.specs.declared.{Kind.Kind, Event.Event, Verdict.Verdict, Answer.Answer}
-use Rattle.machine.specs.promises.OneAccess.{RegisterNeeded, accessOf, AcceptedIn}
+use Rattle.machine.specs.declared.{Register.{Register, the-variants.{X, Mark}}, Op.Op}
+use Rattle.machine.specs.declared.Access.{Access, the-variants.{NoAccess, Touch}}
+use Rattle.machine.specs.declared.{Kind.Kind, Event.Event, Verdict.Verdict, Told.Told}
+use Rattle.machine.specs.promises.OneAccess.{Needed, RegisterNeeded, accessOf, AcceptedIn}
 use Rattle.machine.specs.promises.Surplus.{needed, surplus, SurplusNeverChanges, SurplusNeverBears}
 use Rattle.counting.proofs.Searching.{first-bad-same, count-same}
 use Rattle.machine.proofs.refusals.{Refusing.{ruled, started, ruled-accepted}, Passing.passed}
@@ -29,13 +33,19 @@ beyond-fill : {A : Type 0} (n : ℕ) (a : A) (l : List A) → drop n (fill n a l
 beyond-fill n a l = drop-at (replicate n a) (drop n l) n (length-replicate n a)
 
 module _ (s : Settings) (m : Memory) where
+  put-surplus : (register : Register) (v : ℕ) → Needed s register → surplus s (put s register v m) ≡ surplus s m
+  put-surplus (X block) v h = same-rows refl (drop-set-lt (blocks s) (m .xs) block v h) refl
+  put-surplus (Mark block place) v h =
+      same-rows refl refl (drop-set-lt (marksNeeded s) (m .marks) (markIndex s block place) v (h .2))
+
   store-surplus : (a : Access) → RegisterNeeded s a → surplus s (store s a m) ≡ surplus s m
   store-surplus NoAccess h = refl
-  store-surplus (XRead block) h = refl
-  store-surplus (XWritten block v) h = same-rows refl (drop-set-lt (blocks s) (m .xs) block v h) refl
-  store-surplus (MarkRead block place) h = refl
-  store-surplus (MarkWritten block place v) h =
-      same-rows refl refl (drop-set-lt (marksNeeded s) (m .marks) (markIndex s block place) v (h .2))
+  store-surplus (Touch register op) h = go (opWrites op)
+    where
+      go : (writes : Bool) → surplus s (cond writes (put s register (left op (content s register m)) m) m)
+          ≡ surplus s m
+      go true = put-surplus register _ h
+      go false = refl
 
   record-surplus : (p : ℕ) (new : Record) → p < s .n → surplus s (withRecord p new m) ≡ surplus s m
   record-surplus p new low = same-rows (drop-set-lt (s .n) (m .records) p new low) refl refl
@@ -117,20 +127,29 @@ module _ (s : Settings) (m : Memory) where
         getD-take (s .n) (m .records) (event .task .0) idle (let low : event .task .0 < s .n = omega arith in low),
       )
 
+  needed-content : (register : Register) → Needed s register → content s register (needed s m) ≡ content s register m
+  needed-content (X block) h = getD-take (blocks s) (m .xs) block 0 h
+  needed-content (Mark block place) h = getD-take (marksNeeded s) (m .marks) (markIndex s block place) 0 (h .2)
+
+  needed-put : (register : Register) (v : ℕ) → Needed s register
+      → put s register v (needed s m) ≡ needed s (put s register v m)
+  needed-put (X block) v h = same-rows refl (sym (take-set-lt (blocks s) (m .xs) block v h)) refl
+  needed-put (Mark block place) v h =
+      same-rows refl refl (sym (take-set-lt (marksNeeded s) (m .marks) (markIndex s block place) v (h .2)))
+
   needed-store : (a : Access) → RegisterNeeded s a → store s a (needed s m) ≡ needed s (store s a m)
   needed-store NoAccess h = refl
-  needed-store (XRead block) h = refl
-  needed-store (XWritten block v) h = same-rows refl (sym (take-set-lt (blocks s) (m .xs) block v h)) refl
-  needed-store (MarkRead block place) h = refl
-  needed-store (MarkWritten block place v) h =
-      same-rows refl refl (sym (take-set-lt (marksNeeded s) (m .marks) (markIndex s block place) v (h .2)))
+  needed-store (Touch register op) h = rw (needed-content register h) (go (opWrites op))
+    where
+      go : (writes : Bool)
+          → cond writes (put s register (left op (content s register m)) (needed s m)) (needed s m)
+          ≡ needed s (cond writes (put s register (left op (content s register m)) m) m)
+      go true = needed-put register _ h
+      go false = refl
 
   needed-value : (a : Access) → RegisterNeeded s a → value s a (needed s m) ≡ value s a m
   needed-value NoAccess h = refl
-  needed-value (XRead block) h = getD-take (blocks s) (m .xs) block 0 h
-  needed-value (XWritten block v) h = refl
-  needed-value (MarkRead block place) h = getD-take (marksNeeded s) (m .marks) (markIndex s block place) 0 (h .2)
-  needed-value (MarkWritten block place v) h = refl
+  needed-value (Touch register op) h = ap (seen op) (needed-content register h)
 
   needed-with : (p : ℕ) (new : Record) → p < s .n → withRecord p new (needed s m) ≡ needed s (withRecord p new m)
   needed-with p new low = same-rows (sym (take-set-lt (s .n) (m .records) p new low)) refl refl
@@ -153,14 +172,16 @@ accept-cut : (s : Settings) (kind : Kind) (p : ℕ) (state : State) (m : Memory)
     → RegisterNeeded s (access s kind p state)
     → accept s kind p state (needed s m) ≡ cut s (accept s kind p state m)
 accept-cut s kind p state m low h =
-    let same : nextState s kind p state (needed s m) ≡ nextState s kind p state m =
-    ap (next s kind p state) (needed-value s m (access s kind p state) h) in
+    let read = needed-value s m (access s kind p state) h in
+    let same : nextState s kind p state (needed s m) ≡ nextState s kind p state m = ap (next s kind p state) read in
+    let shown : shownOf s kind p state (needed s m) ≡ shownOf s kind p state m =
+    ap (shownBy (access s kind p state)) read in
     let memory =
     ap₂ (λ (new : State) (stored : Memory). withRecord p (record { state = new }) stored) same
     (needed-store s m (access s kind p state) h)
     ∙ needed-with s (store s (access s kind p state) m) p (record { state = nextState s kind p state m }) low
     in
-    λ i. record { answer = answerOf s kind state (same i); memory = memory i }
+    λ i. record { answer = record { told = toldOf s kind state (same i); shown = shown i }; memory = memory i }
 
 call-cut : (s : Settings) (event : Event) (m : Memory) → call s event (needed s m) ≡ cut s (call s event m)
 call-cut s event m = rw (same-verdict s m event) (go (verdictOf s event m) refl)
@@ -185,7 +206,7 @@ setup-cut s m = rw (same-short s m, same-out s m) (go (setupVerdict s (viewOf s 
 
     go : (verdict : Verdict) → refuseOr verdict (needed s m) (started s (needed s m)) ≡ cut s
         (refuseOr verdict m (started s m))
-    go Verdict.Accepted = λ i. record { answer = Answer.Done; memory = filled i }
+    go Verdict.Accepted = λ i. record { answer = plain Told.Done; memory = filled i }
     go (Verdict.Refused why) = refl
 
 pub surplus-never-bears : SurplusNeverBears

@@ -4,19 +4,19 @@ use Prim.Native.Nat.{ℕ}
 use native.Mathlib.Omega.{arith}
 use lib.Dec.{T}
 use Rattle.machine.specs.{Places.nameNumber, Records.isSeeking, Memory.{Memory, stateOf}}
-use Rattle.machine.specs.Calls.{Outcome, eventOf, standing, freed, answerOf, nextState, call}
+use Rattle.machine.specs.Calls.{Outcome, eventOf, standing, freed, toldOf, nextState, call}
 use Rattle.machine.specs.promises.{Demands.Seeks, OneAccess.AcceptedIn, Telling.EachAnswerTells}
 use Rattle.machine.specs.declared.{Settings.Settings, State.{State, the-variants.{Idle, Seeking, Holding}}}
-use Rattle.machine.specs.declared.{Kind.{Kind, the-variants.{Ask, Turn, Release}}, Answer.Answer}
-use Rattle.machine.specs.Answers.{said, Tells}
+use Rattle.machine.specs.declared.{Kind.{Kind, the-variants.{Ask, Turn, Release}}, Told.Told, Answer.Answer}
+use Rattle.machine.specs.Answers.{toldSaid, Tells}
 use Rattle.machine.proofs.{refusals.Passing.by-the-rules, calls.Effects.only-the-register-written-changes}
 
--- an answer tells what its case does
-pub tells : (answer is : Answer) (values : List ℕ) → answer ≡ is → Tells (said is) values
-    → (answer ≡ is) × Tells (said answer) values
-tells answer is values e told = (e, subst (λ (a : Answer). Tells (said a) values) (sym e) told)
+-- an answer says what its case tells
+pub tells : (told is : Told) (values : List ℕ) → told ≡ is → Tells (toldSaid is) values
+    → (told ≡ is) × Tells (toldSaid told) values
+tells told is values e so = (e, subst (λ (t : Told). Tells (toldSaid t) values) (sym e) so)
 
-seeks-told : (s : Settings) (state : State) → T (isSeeking state) → standing s state ≡ Answer.Seeks
+seeks-told : (s : Settings) (state : State) → T (isSeeking state) → standing s state ≡ Told.Seeks
 seeks-told s Idle t = absurd t
 seeks-told s (Seeking r c point) t = refl
 seeks-told s (Holding r c) t = absurd t
@@ -30,17 +30,17 @@ module _ (s : Settings) (p : ℕ) (m : Memory) where
   after kind t = only-the-register-written-changes s (eventOf kind p) m t .own
 
   answered : (kind : Kind) → AcceptedIn s (eventOf kind p) m
-      → call s (eventOf kind p) m .answer ≡ answerOf s kind (stateOf m p) (next kind)
-  answered kind t = ap (λ (o : Outcome). o .answer) (by-the-rules s (eventOf kind p) m t)
+      → call s (eventOf kind p) m .answer .told ≡ toldOf s kind (stateOf m p) (next kind)
+  answered kind t = ap (λ (o : Outcome). o .answer .told) (by-the-rules s (eventOf kind p) m t)
 
   seeks-answered : (kind : Kind) → AcceptedIn s (eventOf kind p) m → T (isSeeking (next kind))
-      → call s (eventOf kind p) m .answer ≡ Answer.Seeks
+      → call s (eventOf kind p) m .answer .told ≡ Told.Seeks
   seeks-answered Ask t seeks = answered Ask t ∙ seeks-told s (next Ask) seeks
   seeks-answered Turn t seeks = answered Turn t ∙ seeks-told s (next Turn) seeks
   seeks-answered Release t seeks = absurd seeks
 
   holds-answered : (kind : Kind) (r c : ℕ) → AcceptedIn s (eventOf kind p) m → next kind ≡ Holding r c
-      → call s (eventOf kind p) m .answer ≡ Answer.Holds (record { 0 = nameNumber s r c })
+      → call s (eventOf kind p) m .answer .told ≡ Told.Holds (record { 0 = nameNumber s r c })
   holds-answered Ask r c t held = answered Ask t ∙ ap (standing s) held
   holds-answered Turn r c t held = answered Turn t ∙ ap (standing s) held
   holds-answered Release r c t held = let z : _≡_ {A = ℕ} 0 1 = cc in absurd (let none : ⊥ = omega arith in none)
@@ -48,16 +48,16 @@ module _ (s : Settings) (p : ℕ) (m : Memory) where
 pub each-answer-tells : EachAnswerTells
 each-answer-tells s p m = record {
   seeks = λ kind t seeks.
-      tells _ Answer.Seeks [] (seeks-answered s p m kind t
+      tells _ Told.Seeks [] (seeks-answered s p m kind t
       (subst (λ (state : State). T (isSeeking state)) (after s p m kind t) seeks)) (refl, refl);
   holds = λ kind n t held.
-      tells _ (Answer.Holds (record { 0 = n })) (n ∷ [])
+      tells _ (Told.Holds (record { 0 = n })) (n ∷ [])
       (holds-answered s p m kind (held .r) (held .c) t (sym (after s p m kind t) ∙ held .holds)
-      ∙ ap (λ (name : ℕ). Answer.Holds (record { 0 = name })) (sym (held .named)))
+      ∙ ap (λ (name : ℕ). Told.Holds (record { 0 = name })) (sym (held .named)))
       (refl, refl);
   frees = λ n t held.
-      tells _ (Answer.Freed (record { 0 = n })) (n ∷ [])
+      tells _ (Told.Freed (record { 0 = n })) (n ∷ [])
       (answered s p m Release t ∙ ap (freed s) (held .holds)
-      ∙ ap (λ (name : ℕ). Answer.Freed (record { 0 = name })) (sym (held .named))) (refl, refl);
-  done = λ ok. tells _ Answer.Done [] ok (refl, refl) .1;
+      ∙ ap (λ (name : ℕ). Told.Freed (record { 0 = name })) (sym (held .named))) (refl, refl);
+  done = λ ok. tells _ Told.Done [] (ap (λ (answer : Answer). answer .told) ok) (refl, refl) .1;
 }

@@ -8,17 +8,17 @@ use lib.Dec.{eqb}
 use borrow.Author.Tests.{eqb-true, eqb-false, ne-eqb}
 use Rattle.machine.specs.{Settings.width, Places.nameNumber, Records.{isHolding, isOut}, Memory.{Memory, stateOf}}
 use Rattle.machine.specs.{Turn.{pointAccess, value, arrive, move, leave, pointTurned}, Refusals.wrongMoment}
-use Rattle.machine.specs.Answers.{isAccepted}
-use Rattle.machine.specs.Calls.{Outcome, nameAt, standing, answerOf, nextState, call, setup, release}
+use Rattle.machine.specs.Answers.{isAccepted, plain}
+use Rattle.machine.specs.Calls.{Outcome, nameAt, standing, toldOf, nextState, call, setup, release}
 use Rattle.machine.specs.History.{run, history}
 use Rattle.machine.specs.promises.Demands.{SetUp, memoryAfter, historyOf, lastAnswer, TrueOf, LastAnswerTrue}
-use Rattle.machine.specs.promises.Demands.{Told}
+use Rattle.machine.specs.promises.Demands.{NameTold}
 use Rattle.machine.specs.promises.Ranges.{WithinLimits}
 use Rattle.machine.specs.declared.{Settings.Settings, Name.Name}
 use Rattle.machine.specs.declared.Direction.{Direction, the-variants.{Right, Down}}
 use Rattle.machine.specs.declared.Point.{Point, the-variants.{WriteX, Scan, WriteMark, ReadX, Clear}}
 use Rattle.machine.specs.declared.State.{State, the-variants.{Idle, Seeking, Holding}}
-use Rattle.machine.specs.declared.{Kind.{Kind, the-variants.{Ask, Turn, Release}}, Event.Event, Answer.Answer}
+use Rattle.machine.specs.declared.{Kind.{Kind, the-variants.{Ask, Turn, Release}}, Event.Event, Told.Told, Answer.Answer}
 use Rattle.machine.proofs.calls.{Fresh.{setup-within, fresh-idle}, Telling.tells}
 use Rattle.machine.proofs.calls.Outcomes.{Called, taken, refused, accepted-answer, called, may-accepted}
 use Rattle.machine.proofs.bridge.Steps.{caller-after, others-after}
@@ -69,7 +69,7 @@ turned-out s p r c (Clear Down) v = arrive-out s (r + 1) c
 
 -- what an accepted call answers is true of the record that it leaves
 answer-true : (s : Settings) (kind : Kind) (p : ℕ) (state : State) (m : Memory) → wrongMoment kind state ≡ false
-    → TrueOf s (nextState s kind p state m) (answerOf s kind state (nextState s kind p state m))
+    → TrueOf s (nextState s kind p state m) (toldOf s kind state (nextState s kind p state m))
 answer-true s Ask p state m e = standing-true s (arrive s 0 0) (arrive-out s 0 0)
 answer-true s Turn p Idle m e = absurd (true≢false e)
 answer-true s Turn p (Seeking r c point) m e =
@@ -87,12 +87,13 @@ abbrev heard : ℕ → Event → Outcome → Answer → Answer
 heard p event outcome before = cond (isAccepted (outcome .answer) && eqb (event .task .0) p) (outcome .answer) before
 
 module _ (s : Settings) (fair : WithinLimits s) (p : ℕ) (m : Memory) (sound : Fit s m) (before : Answer) where
-  heard-kept : (event : Event) → TrueOf s (stateOf m p) before
-      → TrueOf s (stateOf (call s event m .memory) p) (heard p event (call s event m) before)
+  heard-kept : (event : Event) → TrueOf s (stateOf m p) (before .told)
+      → TrueOf s (stateOf (call s event m .memory) p) (heard p event (call s event m) before .told)
   heard-kept event h = go (call s event m) (called s fair event m sound) (eqb (event .task .0) p) refl
     where
       go : (outcome : Outcome) → Called s event m outcome → (its : Bool) → eqb (event .task .0) p ≡ its
-          → TrueOf s (stateOf (outcome .memory) p) (cond (isAccepted (outcome .answer) && its) (outcome .answer) before)
+          → TrueOf s (stateOf (outcome .memory) p)
+          (cond (isAccepted (outcome .answer) && its) (outcome .answer) before .told)
       go outcome (refused why) its e = h
       go outcome (taken o) true e =
           let z : event .task .0 ≡ p = eqb-true (event .task .0) p e in
@@ -109,7 +110,8 @@ module _ (s : Settings) (fair : WithinLimits s) (p : ℕ) (m : Memory) (sound : 
 
 last-heard : (s : Settings) (fair : WithinLimits s) (p : ℕ) (events : List Event) (m : Memory) (before : Answer)
     → InOrder s fair m
-    → TrueOf s (stateOf m p) before → TrueOf s (stateOf (run s events m) p) (lastAnswer p (history s events m) before)
+    → TrueOf s (stateOf m p) (before .told)
+    → TrueOf s (stateOf (run s events m) p) (lastAnswer p (history s events m) before .told)
 last-heard s fair p [] m before f h = h
 last-heard s fair p (event ∷ events) m before f h =
     last-heard s fair p events (call s event m .memory) (heard p event (call s event m) before)
@@ -118,7 +120,7 @@ last-heard s fair p (event ∷ events) m before f h =
 
 pub last-answer-true : LastAnswerTrue
 last-answer-true s lent events ok p l =
-    last-heard s (setup-within s lent ok) p events (setup s lent .memory) Answer.Done (fresh-in-order s lent ok)
+    last-heard s (setup-within s lent ok) p events (setup s lent .memory) (plain Told.Done) (fresh-in-order s lent ok)
     (rw (fresh-idle s lent ok p l) tt)
 
 -- ---- the name that is freed
@@ -133,14 +135,14 @@ holder-may s m p r c l one e = record {
 }
 
 pub told : (s : Settings) (lent : Memory) (events : List Event) → SetUp s lent → (p r c : ℕ) → p < s .n
-    → stateOf (memoryAfter s lent events) p ≡ Holding r c → Told s lent events p (nameNumber s r c)
+    → stateOf (memoryAfter s lent events) p ≡ Holding r c → NameTold s lent events p (nameNumber s r c)
 told s lent events ok p r c l e =
     let fair = setup-within s lent ok in
     let m = memoryAfter s lent events in
     let named : Name = nameAt s r c in
-    let heard : lastAnswer p (historyOf s lent events) Answer.Done ≡ Answer.Holds named =
+    let heard : lastAnswer p (historyOf s lent events) (plain Told.Done) .told ≡ Told.Holds named =
     rw e at (last-answer-true s lent events ok p l) in
-    let freed : s .mode ≡ 1 → call s (release p) m .answer ≡ Answer.Freed named = λ one.
+    let freed : s .mode ≡ 1 → call s (release p) m .answer .told ≡ Told.Freed named = λ one.
     rw (
       may-accepted s fair (release p) m (always-in-order s lent ok events .invariants .fit)
           (holder-may s m p r c l one e),
@@ -148,7 +150,7 @@ told s lent events ok p r c l e =
     ) in
     record {
       answered = heard;
-      answer-tells = tells _ (Answer.Holds named) (named .0 ∷ []) heard (refl, refl) .1;
+      answer-tells = tells _ (Told.Holds named) (named .0 ∷ []) heard (refl, refl) .1;
       freed = freed;
-      freed-tells = λ one. tells _ (Answer.Freed named) (named .0 ∷ []) (freed one) (refl, refl) .1;
+      freed-tells = λ one. tells _ (Told.Freed named) (named .0 ∷ []) (freed one) (refl, refl) .1;
     }

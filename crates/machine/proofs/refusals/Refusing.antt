@@ -8,8 +8,8 @@ use Rattle.machine.specs.Memory.{Memory, stateOf, viewOf}
 use Rattle.machine.specs.Refusals.{Case, when, first, lentCases, rangeCases, taskCases, outsideLimits, rowShort}
 use Rattle.machine.specs.Refusals.{noSuchTask, oneTimeRelease, wrongMoment, moment, tooManyOut, rowBusy}
 use Rattle.machine.specs.Refusals.{setupVerdict}
-use Rattle.machine.specs.Answers.{said, isAccepted}
-use Rattle.machine.specs.Calls.{Outcome, answerOf, nextState, accept, refuseOr, verdictOf, cleared}
+use Rattle.machine.specs.Answers.{toldSaid, said, toldAccepted, isAccepted, plain}
+use Rattle.machine.specs.Calls.{Outcome, toldOf, nextState, accept, refuseOr, verdictOf, cleared}
 use Rattle.machine.specs.promises.Ranges.{WithinLimits}
 use Rattle.machine.specs.promises.Refusing.{Line, line, FirstHolds, RefusedExactly, SomeBusy, taskLines}
 use Rattle.machine.specs.promises.Refusing.{lentLines, rangeLines, setupLines, callLines, TellsFirstBad}
@@ -19,7 +19,7 @@ use Rattle.machine.specs.declared.{Settings.Settings, State.{State, the-
 use Rattle.machine.specs.declared.{Kind.{Kind, the-variants.{Ask, Turn, Release}}, Event.Event}
 use Rattle.machine.specs.declared.{Row.the-variants.{Records, Xs, Marks}, View.View, Verdict.Verdict}
 use Rattle.machine.specs.declared.Refusal.the-variants.{BusyRow, NoSuchTask, OneTime, TooManyOut}
-use Rattle.machine.specs.declared.Answer.{Answer, the-variants.{Done, Seeks, Holds, Freed, Refused}}
+use Rattle.machine.specs.declared.{Told.{Told, the-variants.{Done, Seeks, Holds, Freed, Refused}}, Answer.Answer}
 use Rattle.counting.proofs.Tested.{most, fails, passes, misses, cannot-fail}
 use Rattle.machine.proofs.refusals.Limits.{limits-tested}
 use Rattle.machine.proofs.refusals.Lines.{short-line, release-line, idle-line, seeking-line, holding-line}
@@ -33,14 +33,17 @@ use Rattle.machine.proofs.refusals.Deciding.{refusal-keeps}
 
 -- an answer is accepted exactly if its number is 0
 pub accepted-zero : (answer : Answer) → T (isAccepted answer) ↔ (said answer .number ≡ 0)
-accepted-zero Done = (λ t. refl, λ e. tt)
-accepted-zero Seeks = (λ t. refl, λ e. tt)
-accepted-zero (Holds name) = (λ t. refl, λ e. tt)
-accepted-zero (Freed name) = (λ t. refl, λ e. tt)
-accepted-zero (Refused why) = (λ t. absurd t, λ e. let low = refusal-says why .0 in absurd (omega arith))
+accepted-zero answer = go (answer .told)
+  where
+    go : (told : Told) → T (toldAccepted told) ↔ (toldSaid told .number ≡ 0)
+    go Done = (λ t. refl, λ e. tt)
+    go Seeks = (λ t. refl, λ e. tt)
+    go (Holds name) = (λ t. refl, λ e. tt)
+    go (Freed name) = (λ t. refl, λ e. tt)
+    go (Refused why) = (λ t. absurd t, λ e. let low = refusal-says why .0 in absurd (omega arith))
 
--- what the rules answer is no refusal
-rules-accept : (s : Settings) (kind : Kind) (before after : State) → T (isAccepted (answerOf s kind before after))
+-- what the rules tell is no refusal
+rules-accept : (s : Settings) (kind : Kind) (before after : State) → T (toldAccepted (toldOf s kind before after))
 rules-accept s Ask before Idle = tt
 rules-accept s Ask before (Seeking r c point) = tt
 rules-accept s Ask before (Holding r c) = tt
@@ -56,7 +59,7 @@ abbrev pub ruled : Settings → Event → Memory → Outcome
 ruled s event m = accept s (event .kind) (event .task .0) (stateOf m (event .task .0)) m
 
 abbrev pub started : Settings → Memory → Outcome
-started s m = record { answer = Done; memory = cleared s m }
+started s m = record { answer = plain Done; memory = cleared s m }
 
 pub ruled-accepted : (s : Settings) (event : Event) (m : Memory) → T (isAccepted (ruled s event m .answer))
 ruled-accepted s event m =

@@ -5,16 +5,16 @@ use mathlib.Core.{Path._≡_, Bool.{Bool, true, cond, _&&_}, List.{List, [], _�
 use Prim.Native.Nat.{ℕ, _+_, _-_, _*_, _/_, _≤_, _<_}
 use lib.Dec.{T, eqb}
 use Rattle.machine.specs.{Places.nameNumber, Records.{isSeeking, isHolding}, Memory.{Memory, stateOf, largest}}
-use Rattle.machine.specs.{Answers.{said, Tells, isAccepted}, Calls.{nameAt, call, setup, turn, release}}
+use Rattle.machine.specs.{Answers.{said, Tells, isAccepted, plain}, Calls.{nameAt, call, setup, turn, release}}
 use Rattle.machine.specs.{promises.Ranges.WithinLimits, History.{run, Answered, history, turnsOf, turns}}
 use Rattle.machine.specs.declared.{Settings.Settings, State.{State, the-variants.{Idle, Seeking, Holding}}}
-use Rattle.machine.specs.declared.{Event.Event, Answer.Answer}
+use Rattle.machine.specs.declared.{Event.Event, Told.Told, Answer.Answer}
 
 -- ---- what the statements speak of
 
 -- setup of the lent memory is accepted
 abbrev pub SetUp : Settings → Memory → Type 0
-SetUp s lent = setup s lent .answer ≡ Answer.Done
+SetUp s lent = setup s lent .answer ≡ plain Told.Done
 
 -- the memory that setup and then the calls leave, and the calls with their answers
 abbrev pub memoryAfter : Settings → Memory → List Event → Memory
@@ -48,14 +48,14 @@ lastAnswer p (done ∷ rest) before =
 
 -- what a task was last answered is true of its record: after "seeks" it seeks, after "holds" with a name it holds that
 -- name, and before its first ask and after "freed" it is idle
-abbrev pub TrueOf : Settings → State → Answer → Type 0
-TrueOf s Idle (Answer.Done) = Unit {0}
-TrueOf s Idle (Answer.Seeks) = ⊥
-TrueOf s Idle (Answer.Holds name) = ⊥
-TrueOf s Idle (Answer.Freed name) = Unit {0}
-TrueOf s Idle (Answer.Refused why) = ⊥
-TrueOf s (Seeking r c point) answer = answer ≡ Answer.Seeks
-TrueOf s (Holding r c) answer = answer ≡ Answer.Holds (nameAt s r c)
+abbrev pub TrueOf : Settings → State → Told → Type 0
+TrueOf s Idle Told.Done = Unit {0}
+TrueOf s Idle Told.Seeks = ⊥
+TrueOf s Idle (Told.Holds name) = ⊥
+TrueOf s Idle (Told.Freed name) = Unit {0}
+TrueOf s Idle (Told.Refused why) = ⊥
+TrueOf s (Seeking r c point) told = told ≡ Told.Seeks
+TrueOf s (Holding r c) told = told ≡ Told.Holds (nameAt s r c)
 
 -- the most own turns that an acquisition takes: (N+4)(k-1) long-lived, 4(k-1) one-time
 abbrev pub bound : Settings → ℕ
@@ -79,20 +79,21 @@ HeldNamesBelow =
 abbrev pub LastAnswerTrue : Type 0
 LastAnswerTrue =
     (s : Settings) (lent : Memory) (events : List Event) → SetUp s lent → (p : ℕ) → p < s .n
-    → TrueOf s (stateOf (memoryAfter s lent events) p) (lastAnswer p (historyOf s lent events) Answer.Done)
+    → TrueOf s (stateOf (memoryAfter s lent events) p) (lastAnswer p (historyOf s lent events) (plain Told.Done) .told)
 
 -- the name that a task holds is the one that it was last answered, and the one that its release answers; both answers
 -- are acceptances whose one value is the name
-pub record Told (s : Settings) (lent : Memory) (events : List Event) (p n : ℕ) : Type 0 where
-  pub answered : lastAnswer p (historyOf s lent events) Answer.Done ≡ Answer.Holds (record { 0 = n })
-  pub answer-tells : Tells (said (lastAnswer p (historyOf s lent events) Answer.Done)) (n ∷ [])
-  pub freed : s .mode ≡ 1 → call s (release p) (memoryAfter s lent events) .answer ≡ Answer.Freed (record { 0 = n })
+pub record NameTold (s : Settings) (lent : Memory) (events : List Event) (p n : ℕ) : Type 0 where
+  pub answered : lastAnswer p (historyOf s lent events) (plain Told.Done) .told ≡ Told.Holds (record { 0 = n })
+  pub answer-tells : Tells (said (lastAnswer p (historyOf s lent events) (plain Told.Done))) (n ∷ [])
+  pub freed : s .mode ≡ 1
+      → call s (release p) (memoryAfter s lent events) .answer .told ≡ Told.Freed (record { 0 = n })
   pub freed-tells : s .mode ≡ 1 → Tells (said (call s (release p) (memoryAfter s lent events) .answer)) (n ∷ [])
 
 abbrev pub HeldNameAnswered : Type 0
 HeldNameAnswered =
     (s : Settings) (lent : Memory) (events : List Event) → SetUp s lent → (p n : ℕ) → p < s .n
-    → HoldsName s (memoryAfter s lent events) p n → Told s lent events p n
+    → HoldsName s (memoryAfter s lent events) p n → NameTold s lent events p n
 
 -- "No turn of a seeking task is refused"
 abbrev pub SeekerNeverRefused : Type 0

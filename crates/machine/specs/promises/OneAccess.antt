@@ -1,41 +1,47 @@
 -- 01, "Rules of the grid" and "Numbers of refusal": "exactly one access", and "An access shows in its effect: tests
 -- apart, of X and marks only the register read bears on the next record and the answer, and only the one written
--- changes." Theorems: `one-access`, `only-the-register-read-bears`, `only-the-register-written-changes`.
+-- changes." 02, P6: an answer shows that access. Theorems: `one-access`, `only-the-register-read-bears`,
+-- `only-the-register-written-changes`, `each-shows`.
 use mathlib.Core.{Path._≡_, Bool.{Bool, true, false, not}, List.List}
 use Prim.Native.Nat.{ℕ, _+_, _≤_, _<_}
 use lib.{Dec.T, ListN.{length, getD}}
 use Rattle.machine.specs.{Settings.{width, own}, Places.{blocks, blockNumber}}
-use Rattle.machine.specs.{Memory.{Memory, marksNeeded, markIndex, recordOf, stateOf}, Turn.access}
-use Rattle.machine.specs.{Answers.isAccepted, Calls.{nextState, call}}
+use Rattle.machine.specs.{Memory.{Memory, marksNeeded, markIndex, recordOf, stateOf, content}, Turn.access}
+use Rattle.machine.specs.{Turn.{opReads, opWrites, left}, Answers.isAccepted, Calls.{nextState, call}}
 use Rattle.machine.specs.promises.Ranges.{WithinLimits, StateWithin}
 use Rattle.machine.specs.declared.{Settings.Settings, Point.Point, State.{State, the-variants.{Seeking, Holding}}}
-use Rattle.machine.specs.declared.Access.{Access, the-variants.{NoAccess, XRead, XWritten, MarkRead, MarkWritten}}
-use Rattle.machine.specs.declared.{Kind.the-variants.{Ask, Turn, Release}, Event.Event}
+use Rattle.machine.specs.declared.{Register.{Register, the-variants.{X, Mark}}, Op.the-variants.{Read, Write}}
+use Rattle.machine.specs.declared.{Access.{Access, the-variants.{NoAccess, Touch}}, Letter.the-variants.{R, W}}
+use Rattle.machine.specs.declared.{Shown.{Shown, the-variants.{Nothing, Touched}}, Event.Event}
+use Rattle.machine.specs.declared.Kind.the-variants.{Ask, Turn, Release}
 
 -- ---- which register
 
--- an X number that is needed; a mark that is needed: a place of a block
-abbrev pub XNeeded : Settings → ℕ → Type 0
-XNeeded s block = block < blocks s
-
-abbrev pub MarkNeeded : Settings → ℕ → ℕ → Type 0
-MarkNeeded s block place = (block < blocks s) × (place < width s) × (markIndex s block place < marksNeeded s)
+-- a register that is needed: the X number of a block, or a place of a block's marks
+abbrev pub Needed : Settings → Register → Type 0
+Needed s (X block) = block < blocks s
+Needed s (Mark block place) = (block < blocks s) × (place < width s) × (markIndex s block place < marksNeeded s)
 
 -- there is an access
 abbrev pub touches : Access → Bool
 touches NoAccess = false
-touches (XRead block) = true
-touches (XWritten block v) = true
-touches (MarkRead block place) = true
-touches (MarkWritten block place v) = true
+touches (Touch register op) = true
 
 -- the register of an access, where there is one, is needed
 abbrev pub RegisterNeeded : Settings → Access → Type 0
 RegisterNeeded s NoAccess = Unit {0}
-RegisterNeeded s (XRead block) = XNeeded s block
-RegisterNeeded s (XWritten block v) = XNeeded s block
-RegisterNeeded s (MarkRead block place) = MarkNeeded s block place
-RegisterNeeded s (MarkWritten block place v) = MarkNeeded s block place
+RegisterNeeded s (Touch register op) = Needed s register
+
+-- the value that an access writes, where it writes one, is in its register's range: an X number is at most N, a mark 0
+-- or 1
+abbrev pub Takes : Settings → Register → ℕ → Type 0
+Takes s (X block) v = v ≤ s .n
+Takes s (Mark block place) v = v ≤ 1
+
+abbrev pub Writable : Settings → Access → Type 0
+Writable s NoAccess = Unit {0}
+Writable s (Touch register Read) = Unit {0}
+Writable s (Touch register (Write v)) = Takes s register v
 
 -- an ask: "No register is touched." A turn: "for a seeking task p, exactly one access". A release: "if r+c ≤ k-2 its
 -- own mark in that block becomes 0; otherwise no access"
@@ -44,8 +50,8 @@ pub record OneAccess (s : Settings) (p : ℕ) : Type 0 where
   pub turn : (r c : ℕ) (point : Point) → StateWithin s (Seeking r c point)
       → T (touches (access s Turn p (Seeking r c point))) × RegisterNeeded s (access s Turn p (Seeking r c point))
   pub release-block : (r c : ℕ) → r + c + 2 ≤ s .k
-      → (access s Release p (Holding r c) ≡ MarkWritten (blockNumber s r c) (own s p) 0)
-      × MarkNeeded s (blockNumber s r c) (own s p)
+      → (access s Release p (Holding r c) ≡ Touch (Mark (blockNumber s r c) (own s p)) (Write 0))
+      × Needed s (Mark (blockNumber s r c) (own s p))
   pub release-edge : (r c : ℕ) → r + c + 1 ≡ s .k → access s Release p (Holding r c) ≡ NoAccess
 
 abbrev pub EachOneAccess : Type 0
@@ -64,19 +70,12 @@ AcceptedIn s event m = T (isAccepted (call s event m .answer))
 -- it reads a register
 abbrev pub reads : Access → Bool
 reads NoAccess = false
-reads (XRead block) = true
-reads (XWritten block v) = false
-reads (MarkRead block place) = true
-reads (MarkWritten block place v) = false
+reads (Touch register op) = opReads op
 
 -- two memories agree on the register that an access reads
 abbrev pub SameRead : Settings → Access → Memory → Memory → Type 0
 SameRead s NoAccess m m′ = Unit {0}
-SameRead s (XRead block) m m′ = getD (m .xs) block 0 ≡ getD (m′ .xs) block 0
-SameRead s (XWritten block v) m m′ = Unit {0}
-SameRead s (MarkRead block place) m m′ =
-    getD (m .marks) (markIndex s block place) 0 ≡ getD (m′ .marks) (markIndex s block place) 0
-SameRead s (MarkWritten block place v) m m′ = Unit {0}
+SameRead s (Touch register op) m m′ = T (opReads op) → content s register m ≡ content s register m′
 
 -- a call on two memories gives the same answer and the same next record
 pub record SameEnd (s : Settings) (event : Event) (m m′ : Memory) : Type 0 where
@@ -95,28 +94,29 @@ OnlyTheRegisterReadBears =
     (s : Settings) (event : Event) (m m′ : Memory) → AcceptedIn s event m → AcceptedIn s event m′
     → recordOf m (event .task .0) ≡ recordOf m′ (event .task .0) → ReadBears s event m m′
 
+-- the register is the X number of this block; it is the mark at this index
+abbrev pub AtX : Register → ℕ → Type 0
+AtX (X block) b = b ≡ block
+AtX (Mark block place) b = ⊥
+
+abbrev pub AtMark : Settings → Register → ℕ → Type 0
+AtMark s (X block) i = ⊥
+AtMark s (Mark block place) i = i ≡ markIndex s block place
+
 -- an access writes the X number of this block; the mark at this index
 abbrev pub WritesX : Access → ℕ → Type 0
 WritesX NoAccess b = ⊥
-WritesX (XRead block) b = ⊥
-WritesX (XWritten block v) b = b ≡ block
-WritesX (MarkRead block place) b = ⊥
-WritesX (MarkWritten block place v) b = ⊥
+WritesX (Touch register op) b = T (opWrites op) × AtX register b
 
 abbrev pub WritesMark : Settings → Access → ℕ → Type 0
 WritesMark s NoAccess i = ⊥
-WritesMark s (XRead block) i = ⊥
-WritesMark s (XWritten block v) i = ⊥
-WritesMark s (MarkRead block place) i = ⊥
-WritesMark s (MarkWritten block place v) i = i ≡ markIndex s block place
+WritesMark s (Touch register op) i = T (opWrites op) × AtMark s register i
 
 -- the register written has the value written
-abbrev pub HasWritten : Settings → Access → Memory → Type 0
-HasWritten s NoAccess m = Unit {0}
-HasWritten s (XRead block) m = Unit {0}
-HasWritten s (XWritten block v) m = getD (m .xs) block 0 ≡ v
-HasWritten s (MarkRead block place) m = Unit {0}
-HasWritten s (MarkWritten block place v) m = getD (m .marks) (markIndex s block place) 0 ≡ v
+abbrev pub HasWritten : Settings → Access → Memory → Memory → Type 0
+HasWritten s NoAccess m after = Unit {0}
+HasWritten s (Touch register op) m after =
+    T (opWrites op) → content s register after ≡ left op (content s register m)
 
 -- a row is as long as before, and every element is as before but at these indices
 pub record ChangesOnly {A : Type 0} (indices : ℕ → Type 0) (row after : List A) : Type 0 where
@@ -128,7 +128,7 @@ pub record ChangesOnly {A : Type 0} (indices : ℕ → Type 0) (row after : List
 pub record WrittenChanges (s : Settings) (event : Event) (m after : Memory) : Type 0 where
   pub xs : ChangesOnly (WritesX (accessOf s event m)) (m .xs) (after .xs)
   pub marks : ChangesOnly (WritesMark s (accessOf s event m)) (m .marks) (after .marks)
-  pub written : HasWritten s (accessOf s event m) after
+  pub written : HasWritten s (accessOf s event m) m after
   pub records : ChangesOnly (λ q. q ≡ event .task .0) (m .records) (after .records)
   pub own : stateOf after (event .task .0) ≡ nextState s (event .kind) (event .task .0) (stateOf m (event .task .0)) m
 
@@ -136,3 +136,43 @@ abbrev pub OnlyTheRegisterWrittenChanges : Type 0
 OnlyTheRegisterWrittenChanges =
     (s : Settings) (event : Event) (m : Memory) → AcceptedIn s event m
     → WrittenChanges s event m (call s event m .memory)
+
+-- ---- what an answer shows of it
+
+-- no X and no mark changes
+pub record NothingChanges (m after : Memory) : Type 0 where
+  pub xs : after .xs ≡ m .xs
+  pub marks : after .marks ≡ m .marks
+
+-- whatever X and marks are: accepted from the same record, the call ends the same
+abbrev pub NothingBears : Settings → Event → Memory → Type 0
+NothingBears s event m =
+    (m′ : Memory) → AcceptedIn s event m′ → recordOf m (event .task .0) ≡ recordOf m′ (event .task .0)
+    → SameEnd s event m m′
+
+-- R: the register that was read, with the value that it had. It alone bears, and nothing changes
+pub record ReadIs (s : Settings) (event : Event) (m : Memory) (register : Register) (v : ℕ) : Type 0 where
+  pub needed : Needed s register
+  pub had : content s register m ≡ v
+  pub bears : (m′ : Memory) → AcceptedIn s event m′ → recordOf m (event .task .0) ≡ recordOf m′ (event .task .0)
+      → content s register m′ ≡ v → SameEnd s event m m′
+  pub unchanged : NothingChanges m (call s event m .memory)
+
+-- W: the register that was written, with the value that it has. It alone changes, and nothing bears
+pub record WrittenIs (s : Settings) (event : Event) (m : Memory) (register : Register) (v : ℕ) : Type 0 where
+  pub needed : Needed s register
+  pub has : content s register (call s event m .memory) ≡ v
+  pub xs : ChangesOnly (AtX register) (m .xs) (call s event m .memory .xs)
+  pub marks : ChangesOnly (AtMark s register) (m .marks) (call s event m .memory .marks)
+  pub bears : NothingBears s event m
+
+-- what is shown is so; where no access is shown none was made
+abbrev pub Shows : Settings → Event → Memory → Shown → Type 0
+Shows s event m Nothing = NothingChanges m (call s event m .memory) × NothingBears s event m
+Shows s event m (Touched R register v) = ReadIs s event m register v
+Shows s event m (Touched W register v) = WrittenIs s event m register v
+
+abbrev pub EachShows : Type 0
+EachShows =
+    (s : Settings) (event : Event) (m : Memory) → AcceptedIn s event m
+    → Shows s event m (call s event m .answer .shown)

@@ -5,12 +5,12 @@ use mathlib.Core.{Path._≡_, Logic.{_⊎_, _↔_}, List.{List, [], _∷_}}
 use Prim.Native.Nat.{ℕ, _≤_, _<_}
 use lib.{Dec.T, ListN.length}
 use Rattle.machine.specs.{Settings.width, Memory.{Memory, markIndex, stateOf}}
-use Rattle.machine.specs.{Answers.{Said, said, numberOf, isAccepted}, Calls.{call, setup}}
+use Rattle.machine.specs.{Answers.{Said, said, numberOf, isAccepted, plain}, Calls.{call, setup}}
 use Rattle.machine.specs.promises.Ranges.{WithinLimits, NeedsMore, OutOfRangeAt, SomeOutOfRange, seeksOrHolds}
 use Rattle.machine.specs.declared.{Settings.Settings, Point.Point}
 use Rattle.machine.specs.declared.State.{State, the-variants.{Idle, Seeking, Holding}}
 use Rattle.machine.specs.declared.{Kind.{Kind, the-variants.{Ask, Turn, Release}}, Event.Event}
-use Rattle.machine.specs.declared.{Row.{Row, the-variants.{Records, Xs, Marks}}, Refusal.Refusal, Answer.Answer}
+use Rattle.machine.specs.declared.{Row.{Row, the-variants.{Records, Xs, Marks}}, Refusal.Refusal, Told.Told, Answer.Answer}
 use Rattle.counting.specs.Counting.{count}
 
 -- ---- the form of every table
@@ -146,7 +146,7 @@ pub record RefusalExact : Type 0 where
   -- an answer is an acceptance exactly if it has no number of refusal, and a refusal's number is the one that its
   -- answer has
   pub acceptance : (answer : Answer) → T (isAccepted answer) ↔ (said answer .number ≡ 0)
-  pub numbered : (why : Refusal) → numberOf why ≡ said (Answer.Refused why) .number
+  pub numbered : (why : Refusal) → numberOf why ≡ said (plain (Told.Refused why)) .number
   -- "retire 6": no refusal has this number, so no answer of any call, of opening, of a reader or of a writer
   pub six-retired : (why : Refusal) → numberOf why ≡ 6 → ⊥
 

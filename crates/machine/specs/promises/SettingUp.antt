@@ -3,8 +3,8 @@
 -- Theorem: `setup-clears`.
 use mathlib.Core.{Path._≡_, Logic._↔_}
 use lib.ListN.{replicate}
-use Rattle.machine.specs.{Places.blocks, Records.idle, Memory.{Memory, marksNeeded}, Calls.setup}
-use Rattle.machine.specs.declared.{Settings.Settings, Answer.Answer}
+use Rattle.machine.specs.{Places.blocks, Records.idle, Memory.{Memory, marksNeeded}, Answers.plain, Calls.setup}
+use Rattle.machine.specs.declared.{Settings.Settings, Told.Told}
 use Rattle.machine.specs.promises.{Refusing.{NoneHolds, setupLines}, Surplus.needed}
 
 -- N records idle, all X 0 and all marks 0
@@ -12,7 +12,7 @@ abbrev pub clear : Settings → Memory
 clear s = record { records = replicate (s .n) idle; xs = replicate (blocks s) 0; marks = replicate (marksNeeded s) 0 }
 
 pub record SetupClears (s : Settings) (m : Memory) : Type 0 where
-  pub done : (setup s m .answer ≡ Answer.Done) ↔ NoneHolds (setupLines s m)
+  pub done : (setup s m .answer ≡ plain Told.Done) ↔ NoneHolds (setupLines s m)
   pub clears : NoneHolds (setupLines s m) → needed s (setup s m .memory) ≡ clear s
   pub writes-no-record : setup s m .memory .records ≡ m .records
 

@@ -4,4 +4,4 @@ use Rattle.places.proofs.own.Statement.{statement}
 use Rattle.places.proofs.own.Tie as tie
 
 pub own-spec : {M : Type 1} → statement M
-own-spec = tie.close (tie.spec (λ c. search tests) (λ c. search tests) (λ c. search tests))
+own-spec = tie.close (tie.spec (λ c. search tests) (λ c. search tests))

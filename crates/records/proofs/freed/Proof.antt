@@ -2,7 +2,7 @@
 -- name.
 use mathlib.Core.Path.{ap}
 use native.Mathlib.Omega.{arith}
-use Rattle.machine.{specs.declared.Answer.the-variants.Freed, proofs.Tests.tests}
+use Rattle.machine.{specs.declared.Told.the-variants.Freed, proofs.Tests.tests}
 use Rattle.accesses.proofs.Holding.{holds-on-place}
 use Rattle.records.proofs.freed.Statement.{statement}
 use Rattle.records.proofs.freed.Tie as tie

@@ -1,7 +1,7 @@
 -- The answer with the name is the definition's `standing`: a holding record in range is on a place, which has a name.
 use mathlib.Core.Path.{ap}
 use native.Mathlib.Omega.{arith}
-use Rattle.machine.{specs.declared.Answer.the-variants.Holds, proofs.Tests.tests}
+use Rattle.machine.{specs.declared.Told.the-variants.Holds, proofs.Tests.tests}
 use Rattle.accesses.proofs.Holding.{holds-on-place}
 use Rattle.records.proofs.standing.Statement.{statement}
 use Rattle.records.proofs.standing.Tie as tie

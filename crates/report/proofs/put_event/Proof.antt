@@ -12,10 +12,10 @@ returns c =
     let kind = task .before .before .before .before in
     let position = kind .before .before .before .before in
     simp append-assoc at
-    (then (position .spaced .ensures) 25 (search needs)
-    (λ more. then (kind .put-kind .ensures) 20 more
-    (λ more. then (task .spaced2 .ensures) 14 more
-    (λ more. then (answer .put-answer .ensures) 1 more (λ more. line .line-feed .ensures)))))
+    (then (position .spaced .ensures) 50 (search needs)
+    (λ more. then (kind .put-kind .ensures) 45 more
+    (λ more. then (task .spaced2 .ensures) 39 more
+    (λ more. then (answer .put-told .ensures) 1 more (λ more. line .line-feed .ensures)))))
 
 pub put-event-spec : {M : Type 1} → statement M
 put-event-spec =

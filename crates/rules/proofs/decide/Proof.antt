@@ -3,9 +3,9 @@
 use mathlib.Core.Path.{_≡_, _∙_, sym}
 use denote.Ref.{now}
 use Rattle.machine.{specs.{Memory.Memory, declared.Verdict.Verdict, Refusals.verdict}, proofs.Tests.tests}
-use Rattle.rules.specs.Decision.{rows}
+use Rattle.registers.specs.Touching.{rows}
 use Rattle.rules.proofs.Deciding.{refused-decided, accepted-decided}
-use Rattle.rules.proofs.Accepting.{SeenPassed, seen-passed, touch-needed, next-in-range}
+use Rattle.rules.proofs.Accepting.{SeenPassed, seen-passed, touch-needed, touch-writable, next-in-range}
 use Rattle.rules.proofs.decide.Statement.{statement}
 use Rattle.rules.proofs.decide.Tie as tie
 
@@ -33,15 +33,16 @@ access-requires c κs = (passed c .limits, passed c .own-in-range)
 touch-requires : tie.Need-touch-requires
 touch-requires c κs =
     let ok = passed (c .before .before .before) in
-    (ok .limits, touch-needed ok _ (c .before .before .access .ensures), ok .long .xs, ok .long .marks)
+    let is = c .before .before .access .ensures in
+    (ok .limits, touch-needed ok _ is, touch-writable ok _ is, ok .long .xs, ok .long .marks)
 
 next-requires : tie.Need-next-requires
 next-requires c κs =
     let ok = passed (c .before .before .before .before .before .before .before .before) in
     (ok .limits, ok .own-in-range)
 
-answer-requires : tie.Need-answer-requires
-answer-requires c κs =
+told-requires : tie.Need-told-requires
+told-requires c κs =
     let touched = c .before .before .before .before .before in
     let ok = passed (touched .before .before .before .before) in
     let access = touched .before .before .before .access .ensures in
@@ -49,19 +50,21 @@ answer-requires c κs =
 
 returns : tie.Need-returns
 returns c =
-    let a = c .before .before .before .before .before .before .before .before .before .before in
-    let refused = sym (c .before .before .before .verdict .ensures) ∙ c .before .why .given .1 in
-    refused-decided (a .args .s) (a .args .event .kind) (a .args .event .task .0) (a .args .seen)
-    (registers a) _ refused
+    let a = c .before .before .before .before .before .before .before .before .before .before .before in
+    let refused = sym (c .before .before .before .before .verdict .ensures) ∙ c .before .before .why .given .1 in
+    rw (c .plain .ensures)
+    (refused-decided (a .args .s) (a .args .event .kind) (a .args .event .task .0) (a .args .seen)
+    (registers a) _ refused)
 
 returns-2 : tie.Need-returns-2
 returns-2 c =
-    let touched = c .before .before .before .before .before .before in
-    let told = touched .before .before .before .before in
-    let a = start told .args in
+    let touched = c .before .before .before .before .before .before .before in
+    let known = touched .before .before .before .before in
+    let a = start known .args in
     let access = touched .before .before .before .access .ensures in
-    accepted-decided (a .s) (a .event .kind) (a .event .task .0) (a .seen) (registers (start told)) _ _ _ _ _
-    (accepted told) access (touched .touch .ensures) (c .before .next .ensures) (c .answer .ensures)
+    accepted-decided (a .s) (a .event .kind) (a .event .task .0) (a .seen) (registers (start known)) _ _ _ _ _ _
+    (accepted known) access (touched .touch .ensures) (c .before .before .next .ensures) (c .before .told .ensures)
+    (c .shown .ensures)
 
 pub decide-spec : {M : Type 1} → statement M
 decide-spec =
@@ -69,11 +72,13 @@ decide-spec =
     (tie.spec
     (λ c κs. search tests)
     (λ c. search tests)
+    (λ c κs. search tests)
     (λ c. search tests)
     access-requires
     touch-requires
     next-requires
-    answer-requires
+    told-requires
+    (λ c κs. search tests)
     (λ c. search tests)
     (λ c. search tests)
     returns

@@ -5,7 +5,7 @@ use borrow.Author.Tests.{lt-ltb, le-ltb}
 use denote.Ref.{now}
 use Rattle.machine.specs.{Places.blocks, Memory.{marksNeeded, badX, badMark}}
 use Rattle.machine.proofs.{Tests.tests, refusals.Passed.{Long, none-short-long}}
-use Rattle.rules.specs.Decision.{rows}
+use Rattle.registers.specs.Touching.{rows}
 use Rattle.rules.proofs.range_verdict.Statement.{statement}
 use Rattle.rules.proofs.range_verdict.Tie as tie
 

@@ -4,7 +4,7 @@ use native.Mathlib.Omega.{arith}
 use denote.Ref.{now}
 use Rattle.machine.{specs.{Memory.{Memory, fill}, Refusals.{when, rowBusy, setupVerdict}}, proofs.Tests.tests}
 use Rattle.machine.specs.declared.{Refusal.Refusal, Verdict.Verdict}
-use Rattle.rules.specs.Decision.{rows}
+use Rattle.registers.specs.Touching.{rows}
 use Rattle.rules.proofs.{Rows.{LentPassed, lent-passes}, setup.Statement.statement}
 use Rattle.rules.proofs.setup.Tie as tie
 
@@ -42,14 +42,14 @@ clear-marks-requires c κs =
 
 returns : tie.Need-returns
 returns c =
-    let a = c .before .before .before .before .before .before .before .before in
+    let a = c .before .before .before .before .before .before .before .before .before in
     let refused : said a ≡ Verdict.Refused _ =
-    sym (c .before .before .before .setup-verdict .ensures) ∙ c .before .why .given .1 in
-    rw refused
+    sym (c .before .before .before .before .setup-verdict .ensures) ∙ c .before .before .why .given .1 in
+    rw (c .plain .ensures, refused)
 
 returns-2 : tie.Need-returns-2
 returns-2 c =
-    let marks-done = c .before .before in
+    let marks-done = c .before .before .before in
     let xs-done = marks-done .before .before .before .before .before in
     let told = xs-done .before .before .before in
     let a = start told .args in
@@ -57,7 +57,7 @@ returns-2 c =
     let marks =
     marks-done .clear-marks .ensures ∙ ap (λ n. fill n 0 (now (a .marks)))
     (marks-done .before .marks-needed .ensures) in
-    rw (accepted told, xs, marks)
+    rw (c .plain2 .ensures, accepted told, xs, marks)
 
 pub setup-spec : {M : Type 1} → statement M
 setup-spec =
@@ -65,11 +65,13 @@ setup-spec =
     (tie.spec
     (λ c κs. search tests)
     (λ c. search tests)
+    (λ c κs. search tests)
     (λ c. search tests)
     blocks-requires
     clear-xs-requires
     marks-needed-requires
     clear-marks-requires
+    (λ c κs. search tests)
     (λ c. search tests)
     (λ c. search tests)
     returns

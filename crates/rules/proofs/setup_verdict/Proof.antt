@@ -5,7 +5,7 @@ use denote.Ref.{now}
 use Rattle.machine.specs.{Memory.Memory, Refusals.{when, first, rowBusy, lentCases, setupVerdict}}
 use Rattle.machine.specs.declared.{Refusal.Refusal, Verdict.Verdict}
 use Rattle.machine.proofs.Tests.{tests}
-use Rattle.rules.specs.Decision.{rows}
+use Rattle.registers.specs.Touching.{rows}
 use Rattle.rules.proofs.{Rows.{then, setup-parts}, setup_verdict.Statement.statement}
 use Rattle.rules.proofs.setup_verdict.Tie as tie
 

@@ -4,7 +4,7 @@ use denote.Ref.{now}
 use Rattle.machine.specs.{Memory.Memory, Refusals.{first, lentCases, rangeCases, taskCases, verdict}}
 use Rattle.machine.specs.declared.Verdict.{Verdict}
 use Rattle.machine.proofs.Tests.{tests}
-use Rattle.rules.specs.Decision.{rows}
+use Rattle.registers.specs.Touching.{rows}
 use Rattle.rules.proofs.{Rows.{then, lent-passes, verdict-parts}, verdict.Statement.statement}
 use Rattle.rules.proofs.verdict.Tie as tie
 

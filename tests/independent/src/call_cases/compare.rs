@@ -5,7 +5,7 @@ use std::sync::Mutex;
 
 use super::binary::{pack, MOST_BYTES};
 use super::{cases, CallCase};
-use crate::comparison::{self, Counts, Input, Part};
+use crate::comparison::{self, same_lines, Counts, Input, Part};
 use crate::program::Program;
 use crate::random::Random;
 
@@ -26,9 +26,8 @@ pub fn run(plan: &Plan) -> (usize, usize) {
     let rounds = if plan.seconds.is_some() { usize::MAX } else { 1 };
     let seeds = (plan.seed..=u64::MAX).take(rounds);
     let inputs = Mutex::new(seeds.flat_map(inputs));
-    comparison::run(&plan.program, plan.seconds, &|_| {
-        inputs.lock().expect("making cases does not fail").next()
-    })
+    let input = |_| inputs.lock().expect("making cases does not fail").next();
+    comparison::run(&plan.program, plan.seconds, &input, &same_lines)
 }
 
 /// The inputs of a seed. But for the first two cases, which fill one input, the cases are mixed, so

@@ -8,7 +8,10 @@
 //! x NUMBER ...
 //! marks NUMBER ...
 //! call setup | ask ID | turn ID | release ID
-//! answer done | seeks | holds NAME | freed NAME | refused NUMBER | refused 3 ROW INDEX
+//! answer done | seeks | holds NAME                        of a setup or an ask
+//!        seeks ACCESS | holds NAME ACCESS                 of a turn
+//!        freed NAME ACCESS | freed NAME none              of a release
+//!        refused NUMBER | refused 3 ROW INDEX             of any
 //! records RECORD ...       the rows after the call
 //! x NUMBER ...
 //! marks NUMBER ...
@@ -16,7 +19,8 @@
 //!
 //! A RECORD is `idle`, `hold/R/C` or `seek/R/C/POINT`; a POINT is `x` (write X), `scan/H`, `mark`
 //! (write mark), `read` (read X), `right` or `down` (clear, going there). ROW is `records`, `x` or
-//! `marks`. Words are parted by one space; an empty row is its first word alone. The last line is
+//! `marks`. An ACCESS is as in a listing: `R` or `W`, `X` or `M`, the block, the place among its marks
+//! and the value. Words are parted by one space; an empty row is its first word alone. The last line is
 //! `end NUMBER`, the number of cases. MODE, K, R, C and marks are below 256; N, VERSION, H and
 //! identifiers below 65,536; X below 4,294,967,296.
 //!

@@ -8,7 +8,7 @@ pub mod paths;
 pub mod worst;
 
 use crate::random::Random;
-use crate::schedule::{file_of, Event, MOST_EVENTS};
+use crate::schedule::{file_of, read_all, Event, MOST_EVENTS};
 use crate::Settings;
 
 /// One input, and how it is handed over.
@@ -58,6 +58,14 @@ pub fn random_case(seed: u64, index: u64) -> Case {
     }
     let schedule = histories::random_schedule(&mut random);
     Case::of_schedule(schedule.label, schedule.settings, &schedule.events)
+}
+
+/// The fixed cases and so many random ones of a seed, of these the schedules that have an event.
+pub fn schedules(seed: u64, count: u64) -> Vec<Case> {
+    let random = (0..count).map(|index| random_case(seed, index));
+    let mut cases: Vec<Case> = fixed_cases().into_iter().chain(random).collect();
+    cases.retain(|case| read_all(&case.bytes).is_ok_and(|(_, events)| !events.is_empty()));
+    cases
 }
 
 /// Inputs that arrive bit by bit: a program must read on to the end of its input.

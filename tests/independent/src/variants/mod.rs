@@ -1,6 +1,7 @@
 //! Wrong grids: 01's shortcuts and misreadings of 02. Each runs in place of the grid and differs from
 //! it in one rule, and the generated cases must tell it from the grid.
 
+pub mod accesses;
 pub mod moment;
 pub mod names;
 pub mod peak;
@@ -44,7 +45,8 @@ impl Variant {
 
 fn all() -> impl Iterator<Item = Variant> {
     let of_01 = shortcuts::ALL.into_iter();
-    of_01.chain(moment::ALL).chain(peak::ALL).chain(names::ALL).chain(setup::ALL)
+    let of_calls = of_01.chain(moment::ALL).chain(peak::ALL).chain(names::ALL).chain(setup::ALL);
+    of_calls.chain(accesses::ALL)
 }
 
 /// The variants that schedules must tell from the grid.

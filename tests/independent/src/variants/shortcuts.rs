@@ -1,10 +1,12 @@
 //! 01, "Shortcuts that look right".
 
 use super::Variant;
+use crate::access::Access;
 use crate::grid::{x_of, Direction, Name, Place, Point, Record, Registers, Settings};
-use crate::rules::{grid_turn, leave, moved, Rules};
+use crate::rules::{grid_turn, leave, moved, Grid, Rules};
 
-/// One shared mark per block in mode 1. A task going right has not set it and leaves it alone.
+/// One shared mark per block in mode 1. A task going right has not set it: it reads it once more, and
+/// leaves it as it is.
 pub struct SharedMark;
 
 impl Rules for SharedMark {
@@ -12,8 +14,8 @@ impl Rules for SharedMark {
         1
     }
 
-    fn mark(&self, _: Settings, block: usize, _: usize) -> usize {
-        block
+    fn mark_place(&self, _: Settings, _: usize) -> usize {
+        0
     }
 
     fn turn(
@@ -23,9 +25,12 @@ impl Rules for SharedMark {
         place: Place,
         point: Point,
         registers: &mut Registers,
-    ) -> Record {
+    ) -> (Record, Access) {
         match point {
-            Point::Clear(Direction::Right) => moved(settings, place, Direction::Right),
+            Point::Clear(Direction::Right) => {
+                let access = self.read_mark(settings, registers, settings.block(place), p);
+                (moved(settings, place, Direction::Right), access)
+            }
             _ => grid_turn(self, settings, p, place, point, registers),
         }
     }
@@ -35,10 +40,19 @@ impl Rules for SharedMark {
 pub struct ClearEveryMark;
 
 impl Rules for ClearEveryMark {
-    fn release(&self, settings: Settings, _: usize, place: Place, registers: &mut Registers) {
-        let width = self.marks_in_block(settings);
-        let first = settings.block(place) * width;
-        registers.marks[first..first + width].fill(0);
+    fn release(
+        &self,
+        settings: Settings,
+        p: usize,
+        place: Place,
+        registers: &mut Registers,
+    ) -> Option<Access> {
+        if settings.is_block(place) {
+            let width = self.marks_in_block(settings);
+            let first = settings.block(place) * width;
+            registers.marks[first..first + width].fill(0);
+        }
+        Grid.release(settings, p, place, registers)
     }
 }
 
@@ -62,14 +76,14 @@ impl Rules for ScanAtOnce {
         place: Place,
         point: Point,
         registers: &mut Registers,
-    ) -> Record {
-        let mut record = grid_turn(self, settings, p, place, point, registers);
+    ) -> (Record, Access) {
+        let mut turned = grid_turn(self, settings, p, place, point, registers);
         if let Point::Scan(_) = point {
-            while let Record::Seeking(place, Point::Scan(h)) = record {
-                record = grid_turn(self, settings, p, place, Point::Scan(h), registers);
+            while let (Record::Seeking(place, Point::Scan(h)), _) = turned {
+                turned = grid_turn(self, settings, p, place, Point::Scan(h), registers);
             }
         }
-        record
+        turned
     }
 }
 
@@ -84,22 +98,26 @@ impl Rules for TestXFirst {
         place: Place,
         point: Point,
         registers: &mut Registers,
-    ) -> Record {
+    ) -> (Record, Access) {
         match point {
             Point::Scan(_) => match grid_turn(self, settings, p, place, point, registers) {
-                Record::Seeking(place, Point::WriteMark) => Record::Seeking(place, Point::ReadX),
-                record => record,
+                (Record::Seeking(place, Point::WriteMark), access) => {
+                    (Record::Seeking(place, Point::ReadX), access)
+                }
+                turned => turned,
             },
             Point::ReadX => {
-                if registers.x[settings.block(place)] == x_of(p) {
+                let access = Access::read_x(registers, settings.block(place));
+                let next = if access.value == x_of(p) {
                     Record::Seeking(place, Point::WriteMark)
                 } else {
                     leave(settings, place, Direction::Down)
-                }
+                };
+                (next, access)
             }
             Point::WriteMark => {
-                registers.marks[self.mark(settings, settings.block(place), p)] = 1;
-                Record::Holding(place)
+                let access = self.write_mark(settings, registers, settings.block(place), p, 1);
+                (Record::Holding(place), access)
             }
             _ => grid_turn(self, settings, p, place, point, registers),
         }

@@ -1,0 +1,44 @@
+-- `clear_xs` fills from the front: after i turns the first i are 0 and the rest is as it was.
+use mathlib.Core.Path.{_≡_}
+use Prim.Native.Nat.{_-_, _≤_}
+use native.Mathlib.Omega.{arith}
+use borrow.Author.Fill.{fill-more}
+use lib.ListN.{length, length-set}
+use denote.Ref.{now}
+use Rattle.machine.{specs.Memory.fill, proofs.Tests.tests}
+use Rattle.registers.proofs.clear_xs.Statement.{statement}
+use Rattle.registers.proofs.clear_xs.Tie as tie
+
+abbrev Inv-loop : tie.InvT-loop
+Inv-loop xs₀ n i₀ xs i = (i ≤ n) × (xs ≡ fill i 0 xs₀) × (length xs ≡ length xs₀)
+
+abbrev μ-loop : tie.MeasureT-loop
+μ-loop xs₀ n i₀ xs i = n - i
+
+loop-again : tie.Need-loop-again Inv-loop μ-loop
+loop-again c =
+    let row = now (c .before .before .args .xs) in
+    let at = c .before .loop in
+    (search tests, rw (at .inv .1) (fill-more (at .i) 0 row (omega arith)), simp length-set (at .inv .2))
+
+returns : tie.Need-returns Inv-loop μ-loop
+returns c =
+    let at = c .before .loop in
+    let most = at .inv .0 in
+    let last : at .i ≡ c .before .before .args .n = omega arith in
+    rw last at (at .inv .1)
+
+pub clear-xs-spec : {M : Type 1} → statement M
+clear-xs-spec =
+    tie.close
+    (tie.spec
+    Inv-loop
+    μ-loop
+    (λ c. search tests)
+    (λ c. search tests)
+    (λ c. search tests)
+    (λ c. search tests)
+    (λ c. search tests)
+    loop-again
+    (λ c. search tests)
+    returns)

@@ -1,0 +1,2 @@
+-- What the contracts of the registers cite.
+pub mod Touching
