@@ -7,7 +7,8 @@ use Rattle.machine.specs.{Records.{idle, recordInRange}, Memory.{Memory, viewOf
 use Rattle.machine.specs.Turn.{opWrites, seen, left, access, value, store}
 use Rattle.machine.specs.{Calls.{Outcome, refuseOr, accept, call, cleared, setup, eventOf}, Lent.{lent, leaves}}
 use Rattle.machine.specs.declared.{Settings.Settings, Record.Record}
-use Rattle.machine.specs.declared.{Register.{Register, the-variants.{X, Mark}}, Access.{Access, the-variants.{NoAccess, Touch}}}
+use Rattle.machine.specs.declared.Register.{Register, the-variants.{X, Mark}}
+use Rattle.machine.specs.declared.Access.{Access, the-variants.{NoAccess, Touch}}
 use Rattle.machine.specs.declared.{Kind.Kind, Verdict.Verdict, Told.Told}
 use Rattle.machine.specs.{Refusals.{verdict, setupVerdict}, Answers.plain}
 use Rattle.counting.proofs.Searching.{none-bad-all}

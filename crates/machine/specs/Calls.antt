@@ -1,9 +1,10 @@
--- 01, "Rules of the grid", and 02, P4 and P6: setup, ask, turn and release, from the memory before to the answer and the
--- memory after.
+-- 01, "Rules of the grid", and 02, P4 and P6: setup, ask, turn and release, from the memory before to the answer and
+-- the memory after.
 use Prim.Native.Nat.{ℕ}
 use Rattle.machine.specs.Places.{blocks, nameNumber}
 use Rattle.machine.specs.Memory.{Memory, marksNeeded, stateOf, viewOf, withRecord, fill}
-use Rattle.machine.specs.{Turn.{access, value, store, shownBy, next}, Refusals.{setupVerdict, verdict}, Answers.plain}
+use Rattle.machine.specs.{Turn.{access, value, store, shownBy, next}, Refusals.{setupVerdict, verdict}}
+use Rattle.machine.specs.Answers.{plain}
 use Rattle.machine.specs.declared.{Settings.Settings, Name.Name}
 use Rattle.machine.specs.declared.State.{State, the-variants.{Idle, Seeking, Holding}}
 use Rattle.machine.specs.declared.{Kind.{Kind, the-variants.{Ask, Turn, Release}}, Event.Event, Verdict.Verdict}

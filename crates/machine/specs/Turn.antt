@@ -9,7 +9,8 @@ use Rattle.machine.specs.{Settings.{width, own}, Places.blockNumber, Mem
 use Rattle.machine.specs.declared.{Settings.Settings, Direction.{Direction, the-variants.{Right, Down}}}
 use Rattle.machine.specs.declared.Point.{Point, the-variants.{WriteX, Scan, WriteMark, ReadX, Clear}}
 use Rattle.machine.specs.declared.{State.{State, the-variants.{Idle, Seeking, Holding}}, Record.Record}
-use Rattle.machine.specs.declared.{Register.{Register, the-variants.{X, Mark}}, Op.{Op, the-variants.{Read, Write}}}
+use Rattle.machine.specs.declared.Register.{Register, the-variants.{X, Mark}}
+use Rattle.machine.specs.declared.Op.{Op, the-variants.{Read, Write}}
 use Rattle.machine.specs.declared.{Access.{Access, the-variants.{NoAccess, Touch}}, Letter.the-variants.{R, W}}
 use Rattle.machine.specs.declared.Shown.{Shown, the-variants.{Nothing, Touched}}
 use Rattle.machine.specs.declared.Kind.{Kind, the-variants.{Ask, Turn, Release}}

@@ -18,7 +18,8 @@ use Rattle.machine.proofs.histories.Exact.{setup-takes-largest}
 use Rattle.machine.proofs.calls.Fresh.{setup-within, fresh-idle, fresh-none-out, fresh-fit}
 use Rattle.text.specs.Decimal.{decimal}
 use Rattle.printed.specs.Edges.{FiveNames, FiveByDiagonal, NoTurns, LoneTask, TheOtherTask, TheListing}
-use Rattle.printed.specs.Edges.{TwoAsks, SetupAgain, TwoOut, LastIdentifier, NoRelease, NoReleaseIdle, settings}
+use Rattle.printed.specs.Edges.{TwoAsks, OneTimeMark, SetupAgain, TwoOut, LastIdentifier, NoRelease}
+use Rattle.printed.specs.Edges.{NoReleaseIdle, settings}
 use Rattle.printed.specs.Edges.{named}
 use Rattle.printed.specs.Edges.{Refuses}
 use Rattle.printed.specs.Edges.{SetupsTaken, Outside, OutsideRefused, Edges}
@@ -47,6 +48,10 @@ the-listing = ((refl, refl, refl), (refl, refl, refl))
 two-asks : TwoAsks
 unfolding half placeNumber diagonalNumber count firstBad decimal
 two-asks = ((refl, refl), (refl, refl))
+
+one-time-mark : OneTimeMark
+unfolding half placeNumber diagonalNumber count firstBad decimal
+one-time-mark = (refl, refl)
 
 setup-again : SetupAgain
 unfolding half placeNumber diagonalNumber count firstBad
@@ -146,6 +151,7 @@ edges = record {
   one-time-pair = one-time-pair;
   the-listing = the-listing;
   two-asks = two-asks;
+  one-time-mark = one-time-mark;
   setup-again = setup-again;
   two-out = two-out;
   last-identifier = last-identifier;

@@ -14,7 +14,8 @@ use Rattle.machine.specs.{Calls.{Outcome, nameAt, toldOf, call, setup}, History
 use Rattle.machine.specs.promises.Refusing.{tasksOut}
 use Rattle.machine.specs.promises.{Demands.{memoryAfter, historyOf, used, HoldsSome, bound}, OneAccess.AcceptedIn}
 use Rattle.machine.specs.declared.{Settings.Settings, Name.Name, State.{State, the-variants.{Idle, Seeking, Holding}}}
-use Rattle.machine.specs.declared.{Kind.{Kind, the-variants.{Ask, Turn, Release}}, Event.Event, Told.Told, Answer.Answer}
+use Rattle.machine.specs.declared.{Kind.{Kind, the-variants.{Ask, Turn, Release}}, Event.Event, Told.Told}
+use Rattle.machine.specs.declared.Answer.{Answer}
 use Rattle.machine.specs.declared.{Record.Record, Opening.Opening}
 use Rattle.machine.proofs.refusals.{Lines.tasks-out, Passing.{passed, by-the-rules}}
 use Rattle.machine.proofs.calls.{SettingUp.setup-clears, Effects.only-the-register-written-changes}

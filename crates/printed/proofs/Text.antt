@@ -3,8 +3,9 @@ use mathlib.Core.List.{List, [], _∷_, _++_, append-assoc}
 use Prim.Native.Nat.{ℕ, _≤_}
 use native.Mathlib.Omega.{arith}
 use Rattle.text.{specs.Decimal.decimal, proofs.Plain.decimal-plain}
-use Rattle.machine.specs.Answers.{numberOf, plain}
-use Rattle.machine.specs.declared.{Kind.{Kind, the-variants.{Ask, Turn, Release}}, Event.Event, Told.Told, Answer.Answer}
+use Rattle.machine.specs.Answers.{numberOf}
+use Rattle.machine.specs.declared.{Kind.{Kind, the-variants.{Ask, Turn, Release}}, Event.Event, Told.Told}
+use Rattle.machine.specs.declared.Answer.{Answer}
 use Rattle.machine.specs.declared.{Register.{Register, the-variants.{X, Mark}}, Letter.{Letter, the-variants.{R, W}}}
 use Rattle.machine.specs.declared.{Shown.{Shown, the-variants.{Nothing, Touched}}, Opening.Opening}
 use Rattle.file.specs.File.{opening, openingSaid}
@@ -66,13 +67,16 @@ lines-spelt = record {
   seeks-line = λ position event shown. event-spelt position event (record { told = Told.Seeks; shown = shown })
       (seeks ∷ behind (event .kind) shown)
       (simp append-assoc (a-word (behind-spelt (event .kind) shown)));
-  holds-line = λ position event name shown. event-spelt position event (record { told = Told.Holds name; shown = shown })
+  holds-line = λ position event name shown. event-spelt position event
+      (record { told = Told.Holds name; shown = shown })
       (holds ∷ space ∷ number (name .0) ∷ behind (event .kind) shown)
       (simp append-assoc (a-word (a-word (numbered (name .0) (behind-spelt (event .kind) shown)))));
-  freed-line = λ position event name shown. event-spelt position event (record { told = Told.Freed name; shown = shown })
+  freed-line = λ position event name shown. event-spelt position event
+      (record { told = Told.Freed name; shown = shown })
       (freed ∷ space ∷ number (name .0) ∷ behind (event .kind) shown)
       (simp append-assoc (a-word (a-word (numbered (name .0) (behind-spelt (event .kind) shown)))));
-  refused-line = λ position event why. event-spelt position event (plain (Told.Refused why))
+  refused-line = λ position event why shown. event-spelt position event
+      (record { told = Told.Refused why; shown = shown })
       (refused ∷ space ∷ number (numberOf why) ∷ [])
       (a-word (a-word (numbered (numberOf why) feed)));
   last-line = λ holders peak most. a-word (a-word

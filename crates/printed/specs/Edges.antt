@@ -1,7 +1,8 @@
--- 01, "Both sides of each edge": the nine starred lines and both sides of the limits, as one statement, with the figures
--- that 02 names (P2 to P4, P6). A run begins with setup of a lent memory. Where a line of 01 leaves N, k, mode or task open
--- it is stated for all that are permitted; the lines that fix N and k and follow a run of turns are stated on the largest
--- memory: setup clears what is needed, and by `SurplusNeverBears` the rest changes no answer (docs/DECISIONS.md).
+-- 01, "Both sides of each edge": the nine starred lines and both sides of the limits, as one statement, with the
+-- figures that 02 names (P2 to P4, P6). A run begins with setup of a lent memory. Where a line of 01 leaves N, k, mode
+-- or task open it is stated for all that are permitted; the lines that fix N and k and follow a run of turns are stated
+-- on the largest memory: setup clears what is needed, and by `SurplusNeverBears` the rest changes no answer
+-- (docs/DECISIONS.md).
 use mathlib.Core.{Path._≡_, Logic._⊎_, List.{List, [], _∷_, _++_, map}}
 use Prim.Native.Nat.{ℕ, _+_, _≤_, _<_}
 use lib.Dec.{T}
@@ -133,6 +134,18 @@ TwoAsks = BothVersions (λ version.
     (listing (twoAsks 1 version) ≡ bytesOf "grid 1 2 2\n0 ask 0 seeks\n1 ask 1 seeks\nend 0 2 0\n")
     × (listing (twoAsks 0 version) ≡ bytesOf "grid 0 2 2\n0 ask 0 seeks\n1 ask 1 seeks\nend 0 2 0\n"))
 
+-- 02, P6: "place 0 for X and for the one-time mark": task 1 at the one mark of the block
+abbrev pub atOneMark : ℕ → List ℕ
+atOneMark version =
+    0x47 ∷ 0x52 ∷ 0x53 ∷ version ∷ 0x00 ∷ 0x00 ∷ 0x02 ∷ 0x00 ∷ 0x02 ∷ 0x04 ∷ 0x00
+    ∷ 0 ∷ 1 ∷ 0 ∷ 1 ∷ 1 ∷ 0 ∷ 1 ∷ 1 ∷ 0 ∷ 1 ∷ 1 ∷ 0
+    ∷ []
+
+abbrev pub OneTimeMark : Type 0
+OneTimeMark = BothVersions (λ version. listing (atOneMark version)
+    ≡ bytesOf "grid 0 2 2\n0 ask 1 seeks\n1 turn 1 seeks W X 0 0 2\n2 turn 1 seeks R M 0 0 0\n"
+    ++ bytesOf "3 turn 1 seeks W M 0 0 1\nend 0 1 0\n")
+
 -- 02, P4: while a task is out setup is 18; after its release setup is done again
 abbrev pub SetupAgain : Type 0
 SetupAgain = BothVersions (λ version.
@@ -207,6 +220,7 @@ pub record Edges : Type 0 where
   pub one-time-pair : OneTimePair
   pub the-listing : TheListing
   pub two-asks : TwoAsks
+  pub one-time-mark : OneTimeMark
   pub setup-again : SetupAgain
   pub two-out : TwoOut
   pub last-identifier : LastIdentifier

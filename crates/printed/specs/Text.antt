@@ -1,6 +1,6 @@
--- 01, "The listing, whole", and 02, P6: what each line says, byte by byte and number by number. No text of `specs/Listing` is
--- cited: words stand here as their bytes, and a number is any text that is that number in plain decimal. Theorem:
--- `lines-spelt`.
+-- 01, "The listing, whole", and 02, P6: what each line says, byte by byte and number by number. No text of
+-- `specs/Listing` is cited: words stand here as their bytes, and a number is any text that is that number in plain
+-- decimal. Theorem: `lines-spelt`.
 use mathlib.Core.List.{List, [], _∷_, _++_}
 use Prim.Native.Nat.{ℕ, _≤_}
 use Rattle.text.specs.Plain.{Plain}
@@ -102,9 +102,9 @@ pub record LinesSpelt : Type 0 where
   pub freed-line : (position : ℕ) (event : Event) (name : Name) (shown : Shown)
       → Spells (eventPieces position event (freed ∷ space ∷ number (name .0) ∷ behind (event .kind) shown))
       (eventLine position event (record { told = Told.Freed name; shown = shown }))
-  pub refused-line : (position : ℕ) (event : Event) (why : Refusal)
+  pub refused-line : (position : ℕ) (event : Event) (why : Refusal) (shown : Shown)
       → Spells (eventPieces position event (refused ∷ space ∷ number (said (plain (Told.Refused why)) .number) ∷ []))
-      (eventLine position event (plain (Told.Refused why)))
+      (eventLine position event (record { told = Told.Refused why; shown = shown }))
   -- `end HOLDERS PEAK MOST`
   pub last-line : (holders peak most : ℕ)
       → Spells (end ∷ space ∷ number holders ∷ space ∷ number peak ∷ space ∷ number most ∷ lineFeed ∷ [])

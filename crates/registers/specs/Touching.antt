@@ -1,4 +1,4 @@
--- One access on the rows of registers, which stand as a memory without records: the accesses touch none.
+-- One access on the rows of registers, which stand as a memory without records: an access touches no record.
 use mathlib.Core.{Path._≡_, Bool.cond, List.{List, []}}
 use Prim.Native.Nat.{ℕ, _≤_}
 use lib.ListN.{getD, set}
@@ -20,12 +20,12 @@ Small Read = Unit {0}
 Small (Write v) = v ≤ 1
 
 -- the value read, and the registers afterwards
-pub record Touched : Type 0 where
+pub record Accessed : Type 0 where
   pub value : ℕ
   pub memory : Memory
 
-abbrev pub touching : Settings → Access → Memory → Touched
+abbrev pub touching : Settings → Access → Memory → Accessed
 touching s access m = record { value = value s access m; memory = store s access m }
 
-abbrev pub touched : ℕ → Memory → Touched
+abbrev pub touched : ℕ → Memory → Accessed
 touched value m = record { value = value; memory = m }

@@ -10,7 +10,7 @@ use Rattle.machine.specs.declared.{Settings.Settings, View.View, Record.Record,
 use Rattle.machine.specs.declared.Verdict.{Verdict}
 use Rattle.machine.proofs.refusals.{Deciding.no-case, Limits.limits, Passed.{Long, none-short-long}}
 use Rattle.machine.proofs.calls.OneAccess.{access-needed}
-use Rattle.registers.specs.Touching.{Touched, touched, touching}
+use Rattle.registers.specs.Touching.{Accessed, touched, touching}
 use Rattle.rules.specs.Decision.{Sees}
 use Rattle.machine.proofs.calls.Fitting as fitting
 
@@ -51,7 +51,7 @@ module _ {s : Settings} {kind : Kind} {p : ℕ} {seen : View} {m : Memory} (ok :
   pub next-in-range : (v : ℕ) (left : Memory) (new : Record) → touched v left ≡ touching s touch m
       → new ≡ record { state = next s kind p (seen .own .state) v } → T (recordInRange s new)
   next-in-range v left new read stands =
-      let value = ap (λ (t : Touched). t .value) read in
+      let value = ap (λ (t : Accessed). t .value) read in
       let good =
       fitting.next-in-range s (limits s (ok .limits)) kind p (seen .own .state) m (ok .moment) (ok .own-in-range) in
       rw (stands, value, is) good

@@ -6,7 +6,7 @@ use Rattle.machine.specs.{Memory.Memory, Turn.{access, shownBy, next}, Calls.to
 use Rattle.machine.specs.declared.{Settings.Settings, Record.Record, View.View, Kind.Kind, Access.Access}
 use Rattle.machine.specs.declared.{Refusal.Refusal, Verdict.Verdict, Shown.Shown, Told.Told}
 use Rattle.machine.specs.Refusals.{verdict}
-use Rattle.registers.specs.Touching.{Touched, touched, touching}
+use Rattle.registers.specs.Touching.{Accessed, touched, touching}
 use Rattle.rules.specs.Decision.{decided, decision}
 
 module _ (s : Settings) (kind : Kind) (p : ℕ) (seen : View) (m : Memory) where
@@ -23,6 +23,6 @@ module _ (s : Settings) (kind : Kind) (p : ℕ) (seen : View) (m : Memory) where
       → shown ≡ shownBy touch v
       → decided (record { answer = record { told = told; shown = shown }; own = own }) left ≡ decision s kind p seen m
   accepted-decided touch left v own told shown accepted is touched next tells shows =
-      let read = ap (λ (t : Touched). t .value) touched in
-      let stored = ap (λ (t : Touched). t .memory) touched in
+      let read = ap (λ (t : Accessed). t .value) touched in
+      let stored = ap (λ (t : Accessed). t .memory) touched in
       rw (accepted, tells, shows, next, read, stored, is)

@@ -4,7 +4,8 @@ use mathlib.Core.{Path._≡_, Bool.false}
 use Prim.Native.Nat.{ℕ, _<_}
 use lib.Dec.{T, ltb}
 use Rattle.machine.specs.{Records.recordInRange, Memory.Memory, Turn.{access, store}}
-use Rattle.machine.specs.{Refusals.{setupVerdict, verdict}, Calls.{Outcome, refuseOr, nextState, shownOf, toldOf, cleared}}
+use Rattle.machine.specs.Refusals.{setupVerdict, verdict}
+use Rattle.machine.specs.Calls.{Outcome, refuseOr, nextState, shownOf, toldOf, cleared}
 use Rattle.machine.specs.Answers.{plain}
 use Rattle.machine.specs.declared.{Settings.Settings, Record.Record, View.View, Kind.Kind}
 use Rattle.machine.specs.declared.{Verdict.Verdict, Told.Told, Answer.Answer}

@@ -1,14 +1,14 @@
 -- What shows of a call's access: of X and marks the register read alone bears on the answer and the next record, and
 -- the register written alone changes.
-use mathlib.Core.{Path.{_≡_, refl, sym, ap, subst, _∙_}, Bool.{Bool, true, false, not, cond}, List.List}
+use mathlib.Core.{Path.{_≡_, refl, sym, ap, subst, _∙_}, Bool.not, List.List}
 use Prim.Native.Nat.{ℕ}
 use native.Mathlib.Omega.{arith}
 use lib.{Dec.T, ListN.{set, length-set}, Seq.{getD-set-same, getD-set-other}}
 use Rattle.machine.specs.{Records.idle, Memory.{Memory, markIndex, recordOf, stateOf, withRecord, content, put}}
-use Rattle.machine.specs.Turn.{opReads, opWrites, left, access, value, store, shownBy, next}
+use Rattle.machine.specs.Turn.{access, value, store, shownBy, next}
 use Rattle.machine.specs.Calls.{Outcome, toldOf, nextState, shownOf, call}
 use Rattle.machine.specs.declared.{Settings.Settings, State.State, Record.Record}
-use Rattle.machine.specs.declared.{Register.{Register, the-variants.{X, Mark}}, Op.{Op, the-variants.{Read, Write}}}
+use Rattle.machine.specs.declared.{Register.{Register, the-variants.{X, Mark}}, Op.the-variants.{Read, Write}}
 use Rattle.machine.specs.declared.Access.{Access, the-variants.{NoAccess, Touch}}
 use Rattle.machine.specs.declared.{Kind.Kind, Event.Event, Shown.Shown}
 use Rattle.machine.specs.promises.OneAccess.{Needed, RegisterNeeded, accessOf, AcceptedIn, reads, SameRead}
@@ -26,10 +26,6 @@ module _ {A : Type 0} where
 
   set-row : (l : List A) (i : ℕ) (a : A) → ChangesOnly (λ j. j ≡ i) l (set l i a)
   set-row l i a = record { long = length-set l i a; others = λ j d other. getD-set-other l i j a d other }
-
-  wider : {few many : ℕ → Type 0} {l after : List A} → ((i : ℕ) → few i → many i) → ChangesOnly few l after
-      → ChangesOnly many l after
-  wider f c = record { long = c .long; others = λ i d other. c .others i d (λ e. other (f i e)) }
 
 module _ (s : Settings) (m : Memory) where
   -- one register written
@@ -56,50 +52,33 @@ module _ (s : Settings) (m : Memory) where
   content-with (X block) p new after = refl
   content-with (Mark block place) p new after = refl
 
-  -- one access: what the operation leaves is written, or nothing is
-  abbrev leftBy : Register → Op → Bool → Memory
-  leftBy register op writes = cond writes (put s register (left op (content s register m)) m) m
-
+  -- one access
   pub store-records : (a : Access) → store s a m .records ≡ m .records
   store-records NoAccess = refl
-  store-records (Touch register op) = go (opWrites op)
-    where
-      go : (writes : Bool) → leftBy register op writes .records ≡ m .records
-      go true = put-records register _
-      go false = refl
+  store-records (Touch register Read) = refl
+  store-records (Touch register (Write v)) = put-records register v
 
   store-xs : (a : Access) → ChangesOnly (WritesX a) (m .xs) (store s a m .xs)
   store-xs NoAccess = same-row _ (m .xs)
-  store-xs (Touch register op) = go (opWrites op)
-    where
-      go : (writes : Bool)
-          → ChangesOnly (λ b. T writes × AtX register b) (m .xs) (leftBy register op writes .xs)
-      go true = wider (λ b e. (tt, e)) (put-xs register _)
-      go false = same-row _ (m .xs)
+  store-xs (Touch register Read) = same-row _ (m .xs)
+  store-xs (Touch register (Write v)) = put-xs register v
 
   store-marks : (a : Access) → ChangesOnly (WritesMark s a) (m .marks) (store s a m .marks)
   store-marks NoAccess = same-row _ (m .marks)
-  store-marks (Touch register op) = go (opWrites op)
-    where
-      go : (writes : Bool)
-          → ChangesOnly (λ i. T writes × AtMark s register i) (m .marks) (leftBy register op writes .marks)
-      go true = wider (λ i e. (tt, e)) (put-marks register _)
-      go false = same-row _ (m .marks)
+  store-marks (Touch register Read) = same-row _ (m .marks)
+  store-marks (Touch register (Write v)) = put-marks register v
 
-  stands : (a : Access) → Fit s m → RegisterNeeded s a → HasWritten s a m (store s a m)
+  stands : (a : Access) → Fit s m → RegisterNeeded s a → HasWritten s a (store s a m)
   stands NoAccess fit h = tt
-  stands (Touch register op) fit h = go (opWrites op)
-    where
-      go : (writes : Bool) → T writes
-          → content s register (leftBy register op writes) ≡ left op (content s register m)
-      go true t = put-content register _ fit h
-      go false t = absurd t
+  stands (Touch register Read) fit h = tt
+  stands (Touch register (Write v)) fit h = put-content register v fit h
 
   -- a record put in beside it leaves what was written
-  stands-with : (a : Access) (p : ℕ) (new : Record) (after : Memory) → HasWritten s a m after
-      → HasWritten s a m (withRecord p new after)
+  stands-with : (a : Access) (p : ℕ) (new : Record) (after : Memory) → HasWritten s a after
+      → HasWritten s a (withRecord p new after)
   stands-with NoAccess p new after h = h
-  stands-with (Touch register op) p new after h = λ t. content-with register p new after ∙ h t
+  stands-with (Touch register Read) p new after h = h
+  stands-with (Touch register (Write v)) p new after h = content-with register p new after ∙ h
 
 -- ---- only the register written changes
 
@@ -134,13 +113,13 @@ only-the-register-written-changes s event m t =
 
 same-value : (s : Settings) (m m′ : Memory) (a : Access) → SameRead s a m m′ → value s a m ≡ value s a m′
 same-value s m m′ NoAccess same = refl
-same-value s m m′ (Touch register Read) same = same tt
+same-value s m m′ (Touch register Read) same = same
 same-value s m m′ (Touch register (Write v)) same = refl
 
 unread-same : (s : Settings) (m m′ : Memory) (a : Access) → T (not (reads a)) → SameRead s a m m′
 unread-same s m m′ NoAccess t = tt
 unread-same s m m′ (Touch register Read) t = absurd t
-unread-same s m m′ (Touch register (Write v)) t = λ read. absurd read
+unread-same s m m′ (Touch register (Write v)) t = tt
 
 -- the next state, from one state and one value read
 same-next : (s : Settings) (kind : Kind) (p : ℕ) (state state′ : State) (m m′ : Memory) → state ≡ state′
@@ -227,7 +206,7 @@ module _ (s : Settings) (event : Event) (m : Memory) (t : AcceptedIn s event m) 
   shows (Touch register Read) is = record {
     needed = rw is at needed;
     had = refl;
-    bears = λ m′ t′ e has. bearing m′ t′ e (rw is (λ read. sym has));
+    bears = λ m′ t′ e has. bearing m′ t′ e (rw is (sym has));
     unchanged = record { xs = rw (ended-stored, is); marks = rw (ended-stored, is) };
   }
     where
@@ -235,10 +214,10 @@ module _ (s : Settings) (event : Event) (m : Memory) (t : AcceptedIn s event m) 
       needed = call-needed s event m (passed s event m t)
   shows (Touch register (Write v)) is = record {
     needed = rw is at needed;
-    has = (rw is at (rows-after .written)) tt;
-    xs = wider (λ b e. e .1) (rw is at (rows-after .xs));
-    marks = wider (λ i e. e .1) (rw is at (rows-after .marks));
-    bears = λ m′ t′ e. bearing m′ t′ e (rw is (λ read. absurd read));
+    has = rw is at (rows-after .written);
+    xs = rw is at (rows-after .xs);
+    marks = rw is at (rows-after .marks);
+    bears = λ m′ t′ e. bearing m′ t′ e (rw is tt);
   }
     where
       needed : RegisterNeeded s (accessOf s event m)

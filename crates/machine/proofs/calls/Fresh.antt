@@ -8,7 +8,8 @@ use Rattle.machine.specs.{Places.blocks, Records.isOut}
 use Rattle.machine.specs.Memory.{Memory, marksNeeded, stateOf, outOf, viewOf, fill}
 use Rattle.machine.specs.{Refusals.setupVerdict, Answers.{said, plain}, Calls.{refuseOr, cleared, setup}}
 use Rattle.machine.specs.promises.{Demands.SetUp, Ranges.WithinLimits, Refusing.{NoneHolds, setupLines}}
-use Rattle.machine.specs.declared.{Settings.Settings, State.the-variants.Idle, Verdict.Verdict, Told.Told, Answer.Answer}
+use Rattle.machine.specs.declared.{Settings.Settings, State.the-variants.Idle, Verdict.Verdict, Told.Told}
+use Rattle.machine.specs.declared.Answer.{Answer}
 use Rattle.counting.proofs.{Tested.{misses, cannot-fail}, Searching.count-none}
 use Rattle.machine.proofs.refusals.{Lines.{short-line, idle-tested}, Refusing.{within, started, setup-exactly}}
 use Rattle.machine.proofs.refusals.Passed.{Long, Fit, none-short-long}

@@ -16,7 +16,7 @@ use Rattle.machine.specs.declared.{Kind.{Kind, the-variants.{Ask, Turn, 
 use Rattle.machine.specs.promises.Ranges.{WithinLimits, StateWithin}
 use Rattle.machine.specs.promises.OneAccess.{Needed, touches, RegisterNeeded, EachOneAccess, accessOf}
 use Rattle.machine.proofs.refusals.{Ranges.scans-a-mark, Lines.{point-line, state-line}, Passed.Passed}
-use Rattle.machine.proofs.bridge.AsGrid.{own-below, block-below, mark-below}
+use Rattle.machine.proofs.{calls.Fitting.access-writes, bridge.AsGrid.{own-below, block-below, mark-below}}
 
 -- ---- which register
 
@@ -45,6 +45,7 @@ one-access s l p low = record {
     needed-mark s l p low r c (own s p) b (own-below s l p low),
   );
   release-edge = λ r c e. rw (lt-leb (r + c + 2) (s .k) (let z : s .k < r + c + 2 = omega arith in z));
+  writes = λ kind state. access-writes s l kind p state low;
 }
 
 -- ---- the register of an access, where there is one, is needed

@@ -12,7 +12,8 @@ use Rattle.machine.specs.Calls.{Outcome, accept, call, eventOf, ask, tur
 use Rattle.machine.specs.declared.{Settings.Settings, Direction.{Direction, the-variants.{Right, Down}}}
 use Rattle.machine.specs.declared.Point.{Point, the-variants.{WriteX, Scan, WriteMark, ReadX, Clear}}
 use Rattle.machine.specs.declared.State.{State, the-variants.{Idle, Seeking, Holding}}
-use Rattle.machine.specs.declared.{Kind.{Kind, the-variants.{Ask, Turn, Release}}, Shown.{Shown, the-variants.Nothing}}
+use Rattle.machine.specs.declared.Kind.{Kind, the-variants.{Ask, Turn, Release}}
+use Rattle.machine.specs.declared.Shown.{Shown, the-variants.Nothing}
 use Rattle.machine.specs.Refusals.{wrongMoment}
 use Rattle.machine.specs.promises.OneAccess.{AcceptedIn}
 use Rattle.machine.specs.promises.Rules.{standsAt, freesAt, SeeksAt, xOf, markOf, longMark, oneMark, readX}

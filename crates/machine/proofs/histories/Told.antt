@@ -18,7 +18,8 @@ use Rattle.machine.specs.declared.{Settings.Settings, Name.Name}
 use Rattle.machine.specs.declared.Direction.{Direction, the-variants.{Right, Down}}
 use Rattle.machine.specs.declared.Point.{Point, the-variants.{WriteX, Scan, WriteMark, ReadX, Clear}}
 use Rattle.machine.specs.declared.State.{State, the-variants.{Idle, Seeking, Holding}}
-use Rattle.machine.specs.declared.{Kind.{Kind, the-variants.{Ask, Turn, Release}}, Event.Event, Told.Told, Answer.Answer}
+use Rattle.machine.specs.declared.{Kind.{Kind, the-variants.{Ask, Turn, Release}}, Event.Event, Told.Told}
+use Rattle.machine.specs.declared.Answer.{Answer}
 use Rattle.machine.proofs.calls.{Fresh.{setup-within, fresh-idle}, Telling.tells}
 use Rattle.machine.proofs.calls.Outcomes.{Called, taken, refused, accepted-answer, called, may-accepted}
 use Rattle.machine.proofs.bridge.Steps.{caller-after, others-after}

@@ -9,7 +9,7 @@ use Rattle.machine.specs.Refusals.{Case, when, first, lentCases, rangeCa
 use Rattle.machine.specs.Refusals.{noSuchTask, oneTimeRelease, wrongMoment, moment, tooManyOut, rowBusy}
 use Rattle.machine.specs.Refusals.{setupVerdict}
 use Rattle.machine.specs.Answers.{toldSaid, said, toldAccepted, isAccepted, plain}
-use Rattle.machine.specs.Calls.{Outcome, toldOf, nextState, accept, refuseOr, verdictOf, cleared}
+use Rattle.machine.specs.Calls.{Outcome, toldOf, nextState, accept, refuseOr, verdictOf, call, cleared, setup}
 use Rattle.machine.specs.promises.Ranges.{WithinLimits}
 use Rattle.machine.specs.promises.Refusing.{Line, line, FirstHolds, RefusedExactly, SomeBusy, taskLines}
 use Rattle.machine.specs.promises.Refusing.{lentLines, rangeLines, setupLines, callLines, TellsFirstBad}
@@ -19,7 +19,8 @@ use Rattle.machine.specs.declared.{Settings.Settings, State.{State, the-
 use Rattle.machine.specs.declared.{Kind.{Kind, the-variants.{Ask, Turn, Release}}, Event.Event}
 use Rattle.machine.specs.declared.{Row.the-variants.{Records, Xs, Marks}, View.View, Verdict.Verdict}
 use Rattle.machine.specs.declared.Refusal.the-variants.{BusyRow, NoSuchTask, OneTime, TooManyOut}
-use Rattle.machine.specs.declared.{Told.{Told, the-variants.{Done, Seeks, Holds, Freed, Refused}}, Answer.Answer}
+use Rattle.machine.specs.declared.Told.{Told, the-variants.{Done, Seeks, Holds, Freed, Refused}}
+use Rattle.machine.specs.declared.{Shown.the-variants.Nothing, Answer.Answer}
 use Rattle.counting.proofs.Tested.{most, fails, passes, misses, cannot-fail}
 use Rattle.machine.proofs.refusals.Limits.{limits-tested}
 use Rattle.machine.proofs.refusals.Lines.{short-line, release-line, idle-line, seeking-line, holding-line}
@@ -198,10 +199,28 @@ setup-exactly s m =
     (lent-are s 0 m (when (rowBusy (viewOf s (m .records) 0)) BusyRow ∷ []) (line 18 (SomeBusy s m) ∷ [])
     (λ l. (record { numbered = refl; tested = busy-line s m }, λ idle. tt)))
 
+-- ---- and shows no access
+
+call-shows-none : (s : Settings) (event : Event) (m : Memory) → 1 ≤ callSays s event m .number
+    → call s event m .answer .shown ≡ Nothing
+call-shows-none s event m low =
+    refusal-keeps (λ v. said (refuseOr v m (ruled s event m) .answer))
+    (accepted-zero (ruled s event m .answer) .0 (ruled-accepted s event m)) (λ why. refl)
+    (λ v. refuseOr v m (ruled s event m) .answer .shown) Nothing (λ why. refl) (verdictOf s event m) low
+
+setup-shows-none : (s : Settings) (m : Memory) → setup s m .answer .shown ≡ Nothing
+setup-shows-none s m = go (setupVerdict s (viewOf s (m .records) 0) m)
+  where
+    go : (v : Verdict) → refuseOr v m (started s m) .answer .shown ≡ Nothing
+    go Verdict.Accepted = refl
+    go (Verdict.Refused why) = refl
+
 pub refusal-exact : RefusalExact
 refusal-exact = record {
   calls = call-refused;
   setups = setup-exactly;
+  calls-show-none = call-shows-none;
+  setups-show-none = setup-shows-none;
   acceptance = accepted-zero;
   numbered = λ why. refl;
   six-retired = λ why. refusal-says why .2;

@@ -7,13 +7,13 @@ use Prim.Native.Nat.{ℕ, _+_, _≤_, _<_}
 use lib.{Dec.T, ListN.{length, getD}}
 use Rattle.machine.specs.{Settings.{width, own}, Places.{blocks, blockNumber}}
 use Rattle.machine.specs.{Memory.{Memory, marksNeeded, markIndex, recordOf, stateOf, content}, Turn.access}
-use Rattle.machine.specs.{Turn.{opReads, opWrites, left}, Answers.isAccepted, Calls.{nextState, call}}
+use Rattle.machine.specs.{Answers.isAccepted, Calls.{nextState, call}}
 use Rattle.machine.specs.promises.Ranges.{WithinLimits, StateWithin}
 use Rattle.machine.specs.declared.{Settings.Settings, Point.Point, State.{State, the-variants.{Seeking, Holding}}}
 use Rattle.machine.specs.declared.{Register.{Register, the-variants.{X, Mark}}, Op.the-variants.{Read, Write}}
 use Rattle.machine.specs.declared.{Access.{Access, the-variants.{NoAccess, Touch}}, Letter.the-variants.{R, W}}
 use Rattle.machine.specs.declared.{Shown.{Shown, the-variants.{Nothing, Touched}}, Event.Event}
-use Rattle.machine.specs.declared.Kind.the-variants.{Ask, Turn, Release}
+use Rattle.machine.specs.declared.Kind.{Kind, the-variants.{Ask, Turn, Release}}
 
 -- ---- which register
 
@@ -53,11 +53,13 @@ pub record OneAccess (s : Settings) (p : ℕ) : Type 0 where
       → (access s Release p (Holding r c) ≡ Touch (Mark (blockNumber s r c) (own s p)) (Write 0))
       × Needed s (Mark (blockNumber s r c) (own s p))
   pub release-edge : (r c : ℕ) → r + c + 1 ≡ s .k → access s Release p (Holding r c) ≡ NoAccess
+  -- and what is written is in its register's range
+  pub writes : (kind : Kind) (state : State) → Writable s (access s kind p state)
 
 abbrev pub EachOneAccess : Type 0
 EachOneAccess = (s : Settings) → WithinLimits s → (p : ℕ) → p < s .n → OneAccess s p
 
--- ---- what shows of it
+-- ---- its effect
 
 -- the access that a call makes, by the record of its task
 abbrev pub accessOf : Settings → Event → Memory → Access
@@ -70,12 +72,14 @@ AcceptedIn s event m = T (isAccepted (call s event m .answer))
 -- it reads a register
 abbrev pub reads : Access → Bool
 reads NoAccess = false
-reads (Touch register op) = opReads op
+reads (Touch register Read) = true
+reads (Touch register (Write v)) = false
 
 -- two memories agree on the register that an access reads
 abbrev pub SameRead : Settings → Access → Memory → Memory → Type 0
 SameRead s NoAccess m m′ = Unit {0}
-SameRead s (Touch register op) m m′ = T (opReads op) → content s register m ≡ content s register m′
+SameRead s (Touch register Read) m m′ = content s register m ≡ content s register m′
+SameRead s (Touch register (Write v)) m m′ = Unit {0}
 
 -- a call on two memories gives the same answer and the same next record
 pub record SameEnd (s : Settings) (event : Event) (m m′ : Memory) : Type 0 where
@@ -106,17 +110,19 @@ AtMark s (Mark block place) i = i ≡ markIndex s block place
 -- an access writes the X number of this block; the mark at this index
 abbrev pub WritesX : Access → ℕ → Type 0
 WritesX NoAccess b = ⊥
-WritesX (Touch register op) b = T (opWrites op) × AtX register b
+WritesX (Touch register Read) b = ⊥
+WritesX (Touch register (Write v)) b = AtX register b
 
 abbrev pub WritesMark : Settings → Access → ℕ → Type 0
 WritesMark s NoAccess i = ⊥
-WritesMark s (Touch register op) i = T (opWrites op) × AtMark s register i
+WritesMark s (Touch register Read) i = ⊥
+WritesMark s (Touch register (Write v)) i = AtMark s register i
 
 -- the register written has the value written
-abbrev pub HasWritten : Settings → Access → Memory → Memory → Type 0
-HasWritten s NoAccess m after = Unit {0}
-HasWritten s (Touch register op) m after =
-    T (opWrites op) → content s register after ≡ left op (content s register m)
+abbrev pub HasWritten : Settings → Access → Memory → Type 0
+HasWritten s NoAccess after = Unit {0}
+HasWritten s (Touch register Read) after = Unit {0}
+HasWritten s (Touch register (Write v)) after = content s register after ≡ v
 
 -- a row is as long as before, and every element is as before but at these indices
 pub record ChangesOnly {A : Type 0} (indices : ℕ → Type 0) (row after : List A) : Type 0 where
@@ -128,7 +134,7 @@ pub record ChangesOnly {A : Type 0} (indices : ℕ → Type 0) (row after : List
 pub record WrittenChanges (s : Settings) (event : Event) (m after : Memory) : Type 0 where
   pub xs : ChangesOnly (WritesX (accessOf s event m)) (m .xs) (after .xs)
   pub marks : ChangesOnly (WritesMark s (accessOf s event m)) (m .marks) (after .marks)
-  pub written : HasWritten s (accessOf s event m) m after
+  pub written : HasWritten s (accessOf s event m) after
   pub records : ChangesOnly (λ q. q ≡ event .task .0) (m .records) (after .records)
   pub own : stateOf after (event .task .0) ≡ nextState s (event .kind) (event .task .0) (stateOf m (event .task .0)) m
 
@@ -166,7 +172,8 @@ pub record WrittenIs (s : Settings) (event : Event) (m : Memory) (register : Reg
   pub marks : ChangesOnly (AtMark s register) (m .marks) (call s event m .memory .marks)
   pub bears : NothingBears s event m
 
--- what is shown is so; where no access is shown none was made
+-- what is shown is so; where no access is shown none was made. A write that leaves what stood there has no effect to
+-- tell it by: which access it was is said line by line in `Rules`
 abbrev pub Shows : Settings → Event → Memory → Shown → Type 0
 Shows s event m Nothing = NothingChanges m (call s event m .memory) × NothingBears s event m
 Shows s event m (Touched R register v) = ReadIs s event m register v

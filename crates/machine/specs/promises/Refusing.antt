@@ -10,7 +10,8 @@ use Rattle.machine.specs.promises.Ranges.{WithinLimits, NeedsMore, OutOf
 use Rattle.machine.specs.declared.{Settings.Settings, Point.Point}
 use Rattle.machine.specs.declared.State.{State, the-variants.{Idle, Seeking, Holding}}
 use Rattle.machine.specs.declared.{Kind.{Kind, the-variants.{Ask, Turn, Release}}, Event.Event}
-use Rattle.machine.specs.declared.{Row.{Row, the-variants.{Records, Xs, Marks}}, Refusal.Refusal, Told.Told, Answer.Answer}
+use Rattle.machine.specs.declared.{Row.{Row, the-variants.{Records, Xs, Marks}}, Refusal.Refusal}
+use Rattle.machine.specs.declared.{Shown.the-variants.Nothing, Told.Told, Answer.Answer}
 use Rattle.counting.specs.Counting.{count}
 
 -- ---- the form of every table
@@ -143,6 +144,10 @@ pub record CallRefused (s : Settings) (event : Event) (m : Memory) : Type 0 wher
 pub record RefusalExact : Type 0 where
   pub calls : (s : Settings) (event : Event) (m : Memory) → CallRefused s event m
   pub setups : (s : Settings) (m : Memory) → RefusedExactly (setupSays s m) (setupLines s m)
+  -- 02, P6: an access is shown by an accepted turn or release; a refusal shows none, and setup shows none
+  pub calls-show-none : (s : Settings) (event : Event) (m : Memory) → 1 ≤ callSays s event m .number
+      → call s event m .answer .shown ≡ Nothing
+  pub setups-show-none : (s : Settings) (m : Memory) → setup s m .answer .shown ≡ Nothing
   -- an answer is an acceptance exactly if it has no number of refusal, and a refusal's number is the one that its
   -- answer has
   pub acceptance : (answer : Answer) → T (isAccepted answer) ↔ (said answer .number ≡ 0)

@@ -1,6 +1,7 @@
 -- 01, "Rules of the grid", line by line and mode by mode, as what an accepted call answers and leaves; and with each
--- line the access that 02, P6 lets the answer show. The definitions say both modes at once. Theorems: `follows-the-rules`, what a line says of an accepted call is its outcome;
--- `each-spoken-of`, the lines leave no accepted call out.
+-- line the access that 02, P6 lets the answer show. The definitions say both modes at once. Theorems:
+-- `follows-the-rules`, what a line says of an accepted call is its outcome; `each-spoken-of`, the lines leave no
+-- accepted call out.
 use mathlib.Core.Path.{_≡_}
 use Prim.Native.Nat.{ℕ, _+_, _*_, _≤_, _<_}
 use lib.ListN.{getD}
@@ -83,7 +84,8 @@ pub data Says (s : Settings) (p : ℕ) (m : Memory) : Kind → Outcome → Type 
   asks : {to : Outcome} → stateOf m p ≡ Idle → Arrives s p 0 0 Nothing m to → Says s p m Ask to
   -- "write X: the block's X becomes p+1; scan at 0."
   write-x : {r c : ℕ} → SeeksAt s p m r c WriteX
-      → Says s p m Turn (standsAt s p (Seeking r c (Scan 0)) (wroteX s r c (p + 1)) (withX (blockNumber s r c) (p + 1) m))
+      → Says s p m Turn
+      (standsAt s p (Seeking r c (Scan 0)) (wroteX s r c (p + 1)) (withX (blockNumber s r c) (p + 1) m))
   -- "scan at h, mode 1: read mark h of the block. 1: clear, going right. 0: scan at h+1, or write mark if h+1 = N. The
   -- task's own mark is read too."
   long-scan-marked : {r c h : ℕ} → s .mode ≡ 1 → SeeksAt s p m r c (Scan h) → h < s .n → longMark s m r c h ≡ 1

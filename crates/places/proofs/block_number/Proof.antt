@@ -1,6 +1,6 @@
 -- The number of a block is the definition's, by what `place_number` ensures at k - 1.
 use native.Mathlib.Omega.{arith}
-use Rattle.machine.proofs.{refusals.Limits.limits, Tests.tests}
+use Rattle.machine.proofs.refusals.Limits.{limits}
 use Rattle.places.proofs.{Counts.place-number-fits, block_number.Statement.statement}
 use Rattle.places.proofs.block_number.Tie as tie
 

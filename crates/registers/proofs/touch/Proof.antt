@@ -17,7 +17,8 @@ x-is : (c : tie.After-known-told2) → startX c .args .access
     ≡ Touch (X (c .before .register .given .0 .0)) (c .before .before .before .before .access .given .0 .1 .0)
 x-is c =
     let touched = c .before .before .before .before in
-    touched .access .given .1 ∙ ap (λ (r : Register). Touch r (touched .access .given .0 .1 .0)) (c .before .register .given .1)
+    touched .access .given .1
+    ∙ ap (λ (r : Register). Touch r (touched .access .given .0 .1 .0)) (c .before .register .given .1)
 
 touch-x-requires : tie.Need-touch-x-requires
 touch-x-requires c κs =

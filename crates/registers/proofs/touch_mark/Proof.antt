@@ -1,7 +1,6 @@
 -- `touch_mark` does what the operation says: it reads the mark, or writes it.
 use mathlib.Core.Path.{refl}
 use borrow.Author.Needs.{needs}
-use Rattle.registers.specs.Touching.{Small}
 use Rattle.registers.proofs.touch_mark.Statement.{statement}
 use Rattle.registers.proofs.touch_mark.Tie as tie
 
