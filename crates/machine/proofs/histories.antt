@@ -2,6 +2,7 @@
 pub mod Told
 pub mod Seekers
 pub mod Served
+pub mod Light
 pub mod Leads
 pub mod Worst
 pub mod WorstTurns
@@ -10,3 +11,4 @@ pub mod WorstRun
 pub mod Exact
 pub mod Demand3
 pub mod Setups
+pub mod LightExact

@@ -9,3 +9,4 @@ pub mod Surplus
 pub mod Telling
 pub mod Demands
 pub mod Setups
+pub mod Light

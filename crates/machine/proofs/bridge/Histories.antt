@@ -1,6 +1,6 @@
 -- Histories: what holds after setup and is kept by every call, accepted or refused, holds after every list of calls.
 use mathlib.Core.{Path.{_≡_, refl, ap}, Bool.{true≢false, false}, List.{List, [], _∷_, _++_}}
-use Prim.Native.Nat.{ℕ, suc, _≤_, _<_, zero-le}
+use Prim.Native.Nat.{ℕ, suc, _+_, _≤_, _<_, zero-le}
 use native.Mathlib.{Nat.{le-trans, not-suc-le-zero}, Decide.ℕ-discrete, Omega.arith}
 use lib.Dec.{T}
 use borrow.Author.Tests.{leb-false}
@@ -41,6 +41,12 @@ history-append s [] more m = refl
 history-append s (event ∷ events) more m =
     ap (λ (rest : List Answered). record { event = event; answer = call s event m .answer } ∷ rest)
     (history-append s events more (call s event m .memory))
+
+-- how many tasks a call may bring out: an ask one, any other none
+abbrev pub asked : Kind → ℕ
+asked Ask = 1
+asked Turn = 0
+asked Release = 0
 
 -- ---- the invariants of a history
 
@@ -119,15 +125,32 @@ module _ (s : Settings) (fair : WithinLimits s) where
         go q t (yes e) = rw e was
         go q t (no d) = still-out q d t
 
+  accepted-out : (kind : Kind) (p : ℕ) (memory : Memory) → Fit s memory
+      → May s (record { kind = kind; task = record { 0 = p } }) memory
+      → outOf s (accept s kind p (stateOf memory p) memory .memory .records) ≤ outOf s (memory .records) + asked kind
+  accepted-out Ask p memory sound o = let more = one-more-out Ask p memory sound (o .known) in omega arith
+  accepted-out Turn p memory sound o =
+      let none = none-more-out Turn p memory sound (o .known) (turn-out (stateOf memory p) (o .moment)) in omega arith
+  accepted-out Release p memory sound o =
+      let none = none-more-out Release p memory sound (o .known) (release-out (stateOf memory p) (o .moment)) in
+      omega arith
+
+  pub call-out : (event : Event) (memory : Memory) → Fit s memory
+      → outOf s (call s event memory .memory .records) ≤ outOf s (memory .records) + asked (event .kind)
+  call-out event memory fit = go (call s event memory) (called s fair event memory fit)
+    where
+      go : (outcome : Outcome) → Called s event memory outcome
+          → outOf s (outcome .memory .records) ≤ outOf s (memory .records) + asked (event .kind)
+      go outcome (refused why) = omega arith
+      go outcome (taken o) = accepted-out (event .kind) (event .task .0) memory fit o
+
   accepted-few : (kind : Kind) (p : ℕ) (memory : Memory) → Fit s memory
       → May s (record { kind = kind; task = record { 0 = p } }) memory
       → outOf s (memory .records) ≤ s .k → outOf s (accept s kind p (stateOf memory p) memory .memory .records) ≤ s .k
   accepted-few Ask p memory sound o few =
       le-trans (one-more-out Ask p memory sound (o .known)) (leb-false (s .k) (outOf s (memory .records)) (o .room))
-  accepted-few Turn p memory sound o few =
-      le-trans (none-more-out Turn p memory sound (o .known) (turn-out (stateOf memory p) (o .moment))) few
-  accepted-few Release p memory sound o few =
-      le-trans (none-more-out Release p memory sound (o .known) (release-out (stateOf memory p) (o .moment))) few
+  accepted-few Turn p memory sound o few = let none = accepted-out Turn p memory sound o in omega arith
+  accepted-few Release p memory sound o few = let none = accepted-out Release p memory sound o in omega arith
 
 -- a call that is accepted has passed its tests, so this asks nothing of the memory
 pub call-few : (s : Settings) (event : Event) (memory : Memory) → outOf s (memory .records) ≤ s .k

@@ -1,18 +1,21 @@
 -- Names are a triangle of side k, by rows or by diagonals; blocks are one of side k - 1.
 use mathlib.Core.{Path.{_≡_, ap, _∙_}, Bool.cond}
-use Prim.Native.Nat.{ℕ, suc, _+_, _-_, _*_, _≤_}
+use Prim.Native.Nat.{ℕ, suc, _+_, _-_, _*_, _/_, _≤_}
 use native.Mathlib.{Nat.mul-suc, Numerals.add-one, Decide.ℕ-discrete, Omega.arith}
 use borrow.Author.Tests.{ne-eqb}
 use Rattle.grid.specs.Triangle.{half, placeNumber, diagonalNumber, Numbering}
 use Rattle.grid.proofs.Triangle.{half-suc, half-square, triangle, diagonals}
 use Rattle.machine.specs.{Places.{blocks, blockNumber, names, nameNumber}, declared.Settings.Settings}
 
-pub names-half : (s : Settings) → names s ≡ half (s .k) + s .k
-names-half s =
-    let h = half-square (s .k) in
-    let e : s .k * (s .k + 1) ≡ s .k * s .k + s .k = ap (λ (n : ℕ). s .k * n) (add-one (s .k))
-    ∙ mul-suc (s .k) (s .k) in
+-- the places of a triangle of side k
+pub triangle-half : (k : ℕ) → k * (k + 1) / 2 ≡ half k + k
+triangle-half k =
+    let h = half-square k in
+    let e : k * (k + 1) ≡ k * k + k = ap (λ (n : ℕ). k * n) (add-one k) ∙ mul-suc k k in
     rw e (omega arith)
+
+pub names-half : (s : Settings) → names s ≡ half (s .k) + s .k
+names-half s = triangle-half (s .k)
 
 pub blocks-half : (s : Settings) → 1 ≤ s .k → blocks s ≡ half (s .k - 1) + (s .k - 1)
 blocks-half s l = let e : s .k ≡ suc (s .k - 1) = omega arith in ap half e ∙ half-suc (s .k - 1)

@@ -3,7 +3,7 @@
 -- turn is accepted (`Seekers`), it takes no more turns than the bound (`Served`), and the worst schedule takes as many
 -- (`Exact`).
 use mathlib.Core.Path.{_≡_, sym, _∙_}
-use native.Mathlib.{Decide.ℕ-discrete, Omega.arith}
+use native.Mathlib.Decide.{ℕ-discrete}
 use Rattle.machine.specs.promises.Demands.{HeldNamesDiffer, HeldNamesBelow, LastAnswerTrue, HeldNameAnswered}
 use Rattle.machine.specs.promises.Demands.{SeekerNeverRefused, bound, ServedWithin, BoundExact, SetupTakes}
 use Rattle.machine.proofs.bridge.{Numbering.name-numbering, Names.{held-place, one-place}}
@@ -42,7 +42,10 @@ pub served-within : ServedWithin
 served-within s lent events ok p l = record {
   seeking = seeking-used s lent ok p l events;
   holding = holding-used s lent ok p l events;
-  alone = served-alone s lent ok p l (bound s) events (omega arith);
+  alone = λ seeks.
+      let (more, within, holds, _) = served-alone s lent ok p l (bound s) (λ _. Unit {0})
+      (λ before _. seeking-used s lent ok p l before) (λ _ _. tt) events tt seeks in
+      (more, within, holds);
 }
 
 pub bound-exact : BoundExact

@@ -30,7 +30,7 @@ taken-turn-seeks s m p outcome (refused why) t = absurd t
 taken-turn-seeks s m p outcome (taken o) t = rw (not-false (isSeeking (stateOf m p)) (o .moment)) tt
 
 -- so before a last turn of task 0, in calls of which none is refused, task 0 seeks
-seeks-before-last : (s : Settings) (lent : Memory) → SetUp s lent
+pub seeks-before-last : (s : Settings) (lent : Memory) → SetUp s lent
     → (events : List Event) (last : Event) (ends : EndsWith events last)
     → T (allAccepted (historyOf s lent events)) → last ≡ turn 0 → Seeks (memoryAfter s lent (ends .before)) 0
 seeks-before-last s lent ok events last ends accepted e =
@@ -55,7 +55,7 @@ worst-needs-bound s lent ok =
       its = end .its;
       late = λ more. seeks-before-last s lent ok (worst s) (end .last) (end .ends) (foot .leads .accepted)
           (end .late more);
-      holds = subst (λ (m : Memory). HoldsSome m 0) (sym (foot .leads .ends)) (rw (foot .holds) tt);
+      holds = subst (λ (m : Memory). HoldsSome m 0) (sym (foot .leads .ends)) (foot .holds);
       exactly = used-written s 0 (worst s) (setup s lent .memory) 0 (foot .leads .accepted) ∙ worst-turns s bounds;
     }
 

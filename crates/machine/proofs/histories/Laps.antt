@@ -1,6 +1,6 @@
 -- Tasks that take their turns one task after the other, each call accepted: what each leaves, and what all together
 -- leave.
-use mathlib.Core.{Path.{_≡_, refl, ap, subst, _∙_}, Bool.not, List.{List, [], _∷_}}
+use mathlib.Core.{Path.{_≡_, refl, ap, subst, _∙_}, Bool.not, List.{List, [], _∷_, _++_}}
 use Prim.Native.Nat.{ℕ, zero, suc, _≤_, _<_}
 use native.Mathlib.{Nat.{le-refl, not-suc-le-zero}, Decide.decLt, Omega.arith}
 use lib.Dec.{T}
@@ -95,6 +95,33 @@ module _ {s : Settings} {fair : WithinLimits s} where
     keeps = lap .keeps;
     its = lap .its;
     others = λ q d. lap .others q d ∙ t .others q d;
+  }
+
+  pub lap-append : {Keeps Then : Memory → Type 0} {p : ℕ} {state to : State} {events more : List Event} {m : Memory}
+      (lap : Lap s fair Keeps p state events m)
+      → Lap s fair Then p to more (lap .last)
+      → Lap s fair Then p to (events ++ more) m
+  lap-append lap next = record {
+    last = next .last;
+    leads = leads-append (lap .leads) (next .leads);
+    fine = next .fine;
+    keeps = next .keeps;
+    its = next .its;
+    others = λ q d. next .others q d ∙ lap .others q d;
+  }
+
+  -- what matters less is let go
+  pub lap-keeps : {Keeps Less : Memory → Type 0} {p : ℕ} {state : State} {events : List Event} {m : Memory}
+      → ((after : Memory) → Keeps after → Less after)
+      → Lap s fair Keeps p state events m
+      → Lap s fair Less p state events m
+  lap-keeps less lap = record {
+    last = lap .last;
+    leads = lap .leads;
+    fine = lap .fine;
+    keeps = less (lap .last) (lap .keeps);
+    its = lap .its;
+    others = lap .others;
   }
 
   -- each of the tasks n - 1 .. 0 in turn

@@ -28,7 +28,7 @@ use Rattle.grid.proofs.Spent.{holding-within}
 
 -- ---- records and stands
 
-seeks-at : (W : ℕ) (state : State) → T (isSeeking state) → SeeksAt (standOf W state)
+pub seeks-at : (W : ℕ) (state : State) → T (isSeeking state) → SeeksAt (standOf W state)
 seeks-at W Idle t = t
 seeks-at W (Seeking r c WriteX) t = tt
 seeks-at W (Seeking r c (Scan h)) t = tt
@@ -179,22 +179,37 @@ module _ (s : Settings) (lent : Memory) (ok : SetUp s lent) (p : ℕ) (l : p < s
       (own-turn-within s fair p (memoryAfter s lent events) (sound events) (used s lent events p) l seeks
       (always-within events)))
 
-  -- what is left of the bound is enough
-  pub served-alone : (left : ℕ) (events : List Event) → bound s ≤ used s lent events p + left
-      → Seeks (memoryAfter s lent events) p
-      → (more : ℕ) × (used s lent events p + more ≤ bound s) × HoldsSome (memoryAfter s lent (events ++ turns more p)) p
-  served-alone zero events b seeks = absurd (let z = seeking-used events seeks in omega arith)
-  served-alone (suc left) events b seeks =
-      ⊎-elim (λ again. on (served-alone left (andTurn events) (omega (arith, one-more-used events seeks)) again))
-      (λ holds. (1, (let z = seeking-used events seeks in omega arith), holds)) (seeks-or-holds events seeks)
-    where
-      on : (more : ℕ) × (used s lent (andTurn events) p + more ≤ bound s) × HoldsSome
-          (memoryAfter s lent (andTurn events ++ turns more p)) p
-          → (more : ℕ) × (used s lent events p + more ≤ bound s) × HoldsSome
-          (memoryAfter s lent (events ++ turns more p)) p
-      on h = (
-        suc (h .0),
-        omega (arith, one-more-used events seeks, h .1),
-        subst (λ (all : List Event). HoldsSome (memoryAfter s lent all) p)
-            (append-assoc events (turn p ∷ []) (turns (h .0) p)) (h .2),
-      )
+  -- Where a task that seeks has used fewer than `most` turns, and its own turn leaves the memory so (`Kept`), what is
+  -- left of them is enough.
+  module _ (most : ℕ) (Kept : Memory → Type 0)
+      (fewer : (events : List Event) → Kept (memoryAfter s lent events) → Seeks (memoryAfter s lent events) p
+      → used s lent events p < most)
+      (keeps : (m : Memory) → Kept m → Kept (call s (turn p) m .memory)) where
+    abbrev HoldsWithin : List Event → Type 0
+    HoldsWithin events =
+        (more : ℕ) × (used s lent events p + more ≤ most)
+        × HoldsSome (memoryAfter s lent (events ++ turns more p)) p × Kept (memoryAfter s lent (events ++ turns more p))
+
+    served-left : (left : ℕ) (events : List Event) → Kept (memoryAfter s lent events)
+        → most ≤ used s lent events p + left
+        → Seeks (memoryAfter s lent events) p → HoldsWithin events
+    served-left zero events kept b seeks = absurd (let z = fewer events kept seeks in omega arith)
+    served-left (suc left) events kept b seeks =
+        ⊎-elim (λ again. on (served-left left (andTurn events) still (omega (arith, one-more-used events seeks)) again))
+        (λ holds. (1, (let z = fewer events kept seeks in omega arith), holds, still)) (seeks-or-holds events seeks)
+      where
+        still : Kept (memoryAfter s lent (andTurn events))
+        still = rw (run-append s events (turn p ∷ []) (setup s lent .memory)) (keeps (memoryAfter s lent events) kept)
+
+        on : HoldsWithin (andTurn events) → HoldsWithin events
+        on h =
+            let joined = append-assoc events (turn p ∷ []) (turns (h .0) p) in (
+              suc (h .0),
+              omega (arith, one-more-used events seeks, h .1),
+              subst (λ (all : List Event). HoldsSome (memoryAfter s lent all) p) joined (h .2),
+              subst (λ (all : List Event). Kept (memoryAfter s lent all)) joined (h .3),
+            )
+
+    pub served-alone : (events : List Event) → Kept (memoryAfter s lent events) → Seeks (memoryAfter s lent events) p
+        → HoldsWithin events
+    served-alone events kept = served-left most events kept (omega arith)

@@ -1,22 +1,25 @@
--- The worst schedule, followed from setup: no call of it is refused, and it leaves task 0 holding the place at the foot
--- of the first column.
-use mathlib.Core.{Path.{_≡_, refl, sym, ap, subst, _∙_}, Logic.{_⊎_, inl, inr}, Bool.cond, List.{List, [], _∷_}}
+-- The worst schedules, followed from setup: no call of them is refused, and they leave task 0 holding the place that it
+-- comes to in the first column.
+use mathlib.Core.{Path.{_≡_, refl, sym, subst, _∙_}, Logic.{_⊎_, inl, inr}, Bool.cond, List.{List, [], _∷_, _++_}}
 use Prim.Native.Nat.{ℕ, zero, suc, _+_, _-_, _≤_, _<_}
 use native.Mathlib.{Nat.le-refl, Omega.arith}
-use lib.{Dec.eqb, ListN.{getD, set}}
+use lib.{Dec.{T, eqb}, ListN.{getD, set}}
 use borrow.Author.Tests.{eq-eqb, ne-eqb}
-use Rattle.machine.specs.{Settings.{width, own}, Places.blockNumber, Memory.{Memory, markIndex, stateOf, outOf}}
+use Rattle.machine.specs.{Settings.{width, own}, Places.blockNumber, Records.isHolding}
+use Rattle.machine.specs.Memory.{Memory, markIndex, stateOf, outOf}
 use Rattle.machine.specs.{Turn.{arrive, leave}, Calls.{nextState, accept, setup, ask}, History.turns}
 use Rattle.machine.specs.promises.{Demands.SetUp, Ranges.WithinLimits}
 use Rattle.machine.specs.declared.{Settings.Settings, Direction.the-variants.Down}
 use Rattle.machine.specs.declared.Point.{Point, the-variants.{WriteX, Scan, WriteMark, ReadX, Clear}}
 use Rattle.machine.specs.declared.State.{State, the-variants.{Idle, Seeking, Holding}}
 use Rattle.machine.specs.declared.{Kind.the-variants.{Ask, Turn}, Event.Event}
-use Rattle.machine.proofs.histories.Worst.{worstRow, worstRows, worst}
+use Rattle.machine.proofs.histories.Worst.{worstRow, worstRows, asks, descent, worst, worstLight}
 use Rattle.machine.proofs.histories.Leads.{Leads, leads-more, leads-append, leads-nowhere}
-use Rattle.machine.proofs.histories.Laps.{Took, turn-took, ask-took, Lap, lap-over, lap-more, laps}
+use Rattle.machine.proofs.histories.Laps.{Took, turn-took, ask-took, Lap, Laps, lap-over, lap-more, lap-append}
+use Rattle.machine.proofs.histories.Laps.{lap-keeps, laps}
 use Rattle.machine.proofs.{refusals.Limits.width-least, calls.Fresh.{setup-within, fresh-idle, fresh-none-out}}
-use Rattle.machine.proofs.bridge.{Turning.reads-other, Arriving.{leave-at-once, leave-clearing}}
+use Rattle.machine.proofs.bridge.Turning.{reads-own, reads-other}
+use Rattle.machine.proofs.bridge.Arriving.{arrive-edge, arrive-block, leave-at-once, leave-clearing}
 use Rattle.machine.proofs.bridge.AsGrid.{own-below, gridOf, x-on-block, mark-on-block, x-put, mark-put}
 use Rattle.machine.proofs.bridge.Histories.{InOrder, fresh-in-order, fresh-unmarked, one-more-out}
 
@@ -24,8 +27,12 @@ module _ (s : Settings) (fair : WithinLimits s) where
   -- ---- what a row needs of the memory
 
   -- the marks of the first column are 0 from row r on
-  abbrev Unmarked : ℕ → Memory → Type 0
+  abbrev pub Unmarked : ℕ → Memory → Type 0
   Unmarked r m = (i place : ℕ) → r ≤ i → gridOf s m .mark i 0 place ≡ 0
+
+  -- the same, and X of the block at (r, 0) is task p's
+  abbrev Scanning : ℕ → ℕ → Memory → Type 0
+  Scanning r p m = Unmarked r m × (gridOf s m .x r 0 ≡ p + 1)
 
   -- X of the block at (r, 0) is task n's, and no mark below is set
   abbrev Lost : ℕ → ℕ → Memory → Type 0
@@ -38,26 +45,43 @@ module _ (s : Settings) (fair : WithinLimits s) where
   scanned r h = cond (eqb h (width s)) (Seeking r 0 WriteMark) (Seeking r 0 (Scan h))
 
   scan-lap : (r p : ℕ) → r + 2 ≤ s .k → p < s .n → (left h : ℕ) → h + left ≡ width s → (m : Memory) → InOrder s fair m
-      → Unmarked r m
-      → stateOf m p ≡ scanned r h → Lap s fair (Unmarked r) p (Seeking r 0 WriteMark) (turns left p) m
+      → Scanning r p m
+      → stateOf m p ≡ scanned r h → Lap s fair (Scanning r p) p (Seeking r 0 WriteMark) (turns left p) m
   scan-lap r p b l zero h e m f clean is = lap-over m f clean (is ∙ rw (eq-eqb h (width s) (omega arith)))
   scan-lap r p b l (suc left) h e m f clean is =
       let here = turn-took p r 0 (Scan h) m f l (is ∙ rw (ne-eqb h (width s) (λ z. omega arith))) in
       let unset : getD (m .marks) (markIndex s (blockNumber s r 0) h) 0 ≡ 0 =
-      sym (mark-on-block s (m .marks) r 0 h (omega arith) (omega arith)) ∙ clean r h (le-refl r) in
+      sym (mark-on-block s (m .marks) r 0 h (omega arith) (omega arith)) ∙ clean .0 r h (le-refl r) in
       let next : nextState s Turn p (Seeking r 0 (Scan h)) m ≡ scanned r (h + 1) = rw unset in
       lap-more here
       (scan-lap r p b l left (h + 1) (omega arith) _ (here .fine) clean (here .its ∙ next))
 
   first-lap : (r p : ℕ) → r + 2 ≤ s .k → p < s .n → (m : Memory) → InOrder s fair m → Unmarked r m
       → stateOf m p ≡ Seeking r 0 WriteX
-      → Lap s fair (Unmarked r) p (Seeking r 0 WriteMark) (turns (suc (width s)) p) m
+      → Lap s fair (Scanning r p) p (Seeking r 0 WriteMark) (turns (suc (width s)) p) m
   first-lap r p b l m f clean is =
       let here = turn-took p r 0 WriteX m f l is in
+      let m₁ : Memory = accept s Turn p (Seeking r 0 WriteX) m .memory in
       let some = width-least s fair in
       lap-more here
-      (scan-lap r p b l (width s) 0 (omega arith) _ (here .fine) clean
+      (scan-lap r p b l (width s) 0 (omega arith) m₁ (here .fine)
+      (clean, x-put s fair m m₁ r 0 (p + 1) (omega arith) (f .invariants .fit .long .xs) refl .here)
       (here .its ∙ rw (ne-eqb 0 (width s) (λ z. omega arith))))
+
+  -- who is alone in a block goes on to write its mark, reads its own number in X and holds
+  lone-lap : (r p : ℕ) → r + 2 ≤ s .k → p < s .n → (m : Memory) → InOrder s fair m → Unmarked r m
+      → stateOf m p ≡ Seeking r 0 WriteX
+      → Lap s fair (λ _. Unit {0}) p (Holding r 0) (turns (suc (width s)) p ++ turns 2 p) m
+  lone-lap r p b l m f clean is =
+      let first = first-lap r p b l m f clean is in
+      let m₁ : Memory = accept s Turn p (Seeking r 0 WriteMark) (first .last) .memory in
+      let m₂ : Memory = accept s Turn p (Seeking r 0 ReadX) m₁ .memory in
+      let marks = turn-took p r 0 WriteMark (first .last) (first .fine) l (first .its) in
+      let reads = turn-took p r 0 ReadX m₁ (marks .fine) l (marks .its) in
+      let own : getD (m₁ .xs) (blockNumber s r 0) 0 ≡ p + 1 =
+      sym (x-on-block s (m₁ .xs) r 0 (omega arith)) ∙ first .keeps .1 in
+      lap-append first (lap-more marks (lap-more reads
+      (lap-over m₂ (reads .fine) tt (reads .its ∙ sym (reads-own s p r 0 (getD (m₁ .xs) (blockNumber s r 0) 0) own)))))
 
   -- ---- its other turns there: it writes its mark, reads another's X and, long-lived, clears
 
@@ -119,11 +143,13 @@ module _ (s : Settings) (fair : WithinLimits s) where
 
   -- ---- row after row
 
-  -- the calls leave task 0 at the foot of the first column
-  pub record Foot (events : List Event) (m : Memory) : Type 0 where
+  -- the calls bring task 0 to row `foot` of the first column, and no mark of the column is set from there on
+  pub record Foot (foot : ℕ) (events : List Event) (m : Memory) : Type 0 where
     pub last : Memory
     pub leads : Leads s events m last
-    pub holds : stateOf last 0 ≡ Holding (s .k - 1) 0
+    pub fine : InOrder s fair last
+    pub clean : Unmarked foot last
+    pub its : stateOf last 0 ≡ arrive s foot 0
 
   -- of n + 1 tasks in row r one stays there, and n come to the next row
   record RowDone (n r : ℕ) (m : Memory) : Type 0 where
@@ -137,7 +163,8 @@ module _ (s : Settings) (fair : WithinLimits s) where
       → ((q : ℕ) → q < suc (suc n) → stateOf m q ≡ Seeking r 0 WriteX) → RowDone (suc n) r m
   row-done n r b l m f clean all =
       let first = laps (λ _. Unmarked r) (Seeking r 0 WriteX) (Seeking r 0 WriteMark) (turns (suc (width s))) (suc n)
-      (λ p m₁ h. first-lap r p b (omega arith) m₁) m f clean (λ q h. all q (omega arith)) in
+      (λ p m₁ h f₁ clean₁ is. lap-keeps (λ _ kept. kept .0) (first-lap r p b (omega arith) m₁ f₁ clean₁ is))
+      m f clean (λ q h. all q (omega arith)) in
       let m₁ : Memory = accept s Turn (suc n) (Seeking r 0 WriteX) (first .last) .memory in
       let stays = turn-took (suc n) r 0 WriteX (first .last) (first .fine) l
       (first .others (suc n) (le-refl (suc n)) ∙ all (suc n) (le-refl (suc (suc n)))) in
@@ -158,30 +185,29 @@ module _ (s : Settings) (fair : WithinLimits s) where
         theirs = second .theirs;
       }
 
-  go-down : (n r : ℕ) → r + n + 1 ≡ s .k → (m : Memory) → InOrder s fair m → Unmarked r m
+  go-down : (foot n r : ℕ) → r + n ≡ foot → foot < s .k → (m : Memory) → InOrder s fair m → Unmarked r m
       → ((q : ℕ) → q < suc n → stateOf m q ≡ arrive s r 0)
-      → Foot (worstRows s n) m
-  go-down zero r e m f clean all =
-      let last : r ≡ s .k - 1 = omega arith in
-      record {
-        last = m;
-        leads = leads-nowhere;
-        holds = all 0 (le-refl 1) ∙ rw (eq-eqb (r + 0 + 1) (s .k) (omega arith)) (ap (λ (i : ℕ). Holding i 0) last);
-      }
-  go-down (suc n) r e m f clean all =
+      → Foot foot (worstRows s n) m
+  go-down foot zero r e b m f clean all =
+      let here : r ≡ foot = omega arith in
+      subst (λ (i : ℕ). Foot i [] m) here
+      (record { last = m; leads = leads-nowhere; fine = f; clean = clean; its = all 0 (le-refl 1) })
+  go-down foot (suc n) r e b m f clean all =
       let row = row-done n r (omega arith) (omega (arith, fair .k-within)) m f clean
-      (λ q h. all q h ∙ rw (ne-eqb (r + 0 + 1) (s .k) (λ z. omega arith))) in
-      let rest = go-down n (r + 1) (omega arith) (row .last) (row .fine) (row .keeps) (row .theirs) in
+      (λ q h. all q h ∙ sym (arrive-block s r 0 (λ z. omega arith))) in
+      let rest = go-down foot n (r + 1) (omega arith) b (row .last) (row .fine) (row .keeps) (row .theirs) in
       record {
         last = rest .last;
         leads = leads-append {middle = row .last} {last = rest .last} (row .leads) (rest .leads);
-        holds = rest .holds;
+        fine = rest .fine;
+        clean = rest .clean;
+        its = rest .its;
       }
 
   -- ---- the asks before them
 
   -- n more may ask
-  abbrev Room : ℕ → Memory → Type 0
+  abbrev pub Room : ℕ → Memory → Type 0
   Room n m = (outOf s (m .records) + n ≤ s .k) × Unmarked 0 m
 
   ask-lap : (p : ℕ) (m : Memory) → p < s .n → InOrder s fair m → Room (suc p) m → stateOf m p ≡ Idle
@@ -191,20 +217,57 @@ module _ (s : Settings) (fair : WithinLimits s) where
       let more = one-more-out s fair Ask p m (f .invariants .fit) l in
       lap-more here (lap-over _ (here .fine) (omega arith, room .1) (here .its))
 
-pub worst-run : (s : Settings) (lent : Memory) (ok : SetUp s lent)
-    → Foot s (setup-within s lent ok) (worst s) (setup s lent .memory)
+module _ (s : Settings) (lent : Memory) (ok : SetUp s lent) (m : ℕ) (some : 1 ≤ m) (most : m ≤ s .k) where
+  abbrev fair : WithinLimits s
+  fair = setup-within s lent ok
+
+  pub asks-run : Laps s fair (Room s fair 0) m (arrive s 0 0) (asks m) (setup s lent .memory)
+  asks-run =
+      laps (Room s fair) Idle (arrive s 0 0) (λ p. ask p ∷ []) m
+      (λ p m₁ h. ask-lap s fair p m₁ (omega (arith, fair .k-within)))
+      (setup s lent .memory) (fresh-in-order s lent ok)
+      (omega (arith, fresh-none-out s lent ok), λ i place _. fresh-unmarked s lent ok i 0 place)
+      (λ q h. fresh-idle s lent ok q (omega (arith, fair .k-within)))
+
+  pub descent-run : Foot s fair (m - 1) (descent s m) (setup s lent .memory)
+  descent-run =
+      let down = go-down s fair (m - 1) (m - 1) 0 (omega arith) (omega arith) (asks-run .last) (asks-run .fine)
+      (asks-run .keeps .1)
+      (λ q h. asks-run .theirs q (omega arith)) in
+      record {
+        last = down .last;
+        leads = leads-append {middle = asks-run .last} {last = down .last} (asks-run .leads) (down .leads);
+        fine = down .fine;
+        clean = down .clean;
+        its = down .its;
+      }
+
+-- task 0 holds in the end
+pub record Held (s : Settings) (events : List Event) (m : Memory) : Type 0 where
+  pub last : Memory
+  pub leads : Leads s events m last
+  pub holds : T (isHolding (stateOf last 0))
+
+pub worst-run : (s : Settings) (lent : Memory) → SetUp s lent → Held s (worst s) (setup s lent .memory)
 worst-run s lent ok =
-    let fair = setup-within s lent ok in
-    let bounds = fair in
-    let asks = laps (Room s fair) Idle (arrive s 0 0) (λ p. ask p ∷ []) (s .k)
-    (λ p m h. ask-lap s fair p m (omega (arith, bounds .k-within)))
-    (setup s lent .memory) (fresh-in-order s lent ok)
-    (omega (arith, fresh-none-out s lent ok), λ i place _. fresh-unmarked s lent ok i 0 place)
-    (λ q h. fresh-idle s lent ok q (omega (arith, bounds .k-within))) in
-    let down = go-down s fair (s .k - 1) 0 (omega (arith, bounds .k-least)) (asks .last) (asks .fine) (asks .keeps .1)
-    (λ q h. asks .theirs q (omega (arith, bounds .k-least))) in
+    let bounds = setup-within s lent ok in
+    let foot = descent-run s lent ok (s .k) (bounds .k-least) (le-refl (s .k)) in
     record {
-      last = down .last;
-      leads = leads-append {middle = asks .last} {last = down .last} (asks .leads) (down .leads);
-      holds = down .holds;
+      last = foot .last;
+      leads = foot .leads;
+      holds = rw (foot .its ∙ sym (arrive-edge s (s .k - 1) 0 (omega (arith, bounds .k-least)))) tt;
+    }
+
+-- its last block it has alone
+pub worst-light-run : (s : Settings) (lent : Memory) → SetUp s lent → (m : ℕ) → 1 ≤ m → m < s .k
+    → Held s (worstLight s m) (setup s lent .memory)
+worst-light-run s lent ok m some light =
+    let bounds = setup-within s lent ok in
+    let foot = descent-run s lent ok m some (omega arith) in
+    let alone = lone-lap s bounds (m - 1) 0 (omega arith) (bounds .n-least) (foot .last) (foot .fine) (foot .clean)
+    (foot .its ∙ sym (arrive-block s (m - 1) 0 (λ e. omega arith))) in
+    record {
+      last = alone .last;
+      leads = leads-append {middle = foot .last} {last = alone .last} (foot .leads) (alone .leads);
+      holds = rw (alone .its) tt;
     }

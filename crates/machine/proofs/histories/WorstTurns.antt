@@ -1,13 +1,14 @@
--- The worst schedule as a list: task 0's turns in it are as many as the bound, and its last call is task 0's.
-use mathlib.Core.{Path.{_≡_, refl, ap, _∙_}, Logic.{_⊎_, inl, inr}, Bool.cond, List.{List, [], _∷_}}
+-- The worst schedules as lists: task 0's turns in them are as many as the bound, and the last call is task 0's.
+use mathlib.Core.{Path.{_≡_, refl, ap, _∙_}, Logic.{_⊎_, inl, inr}, Bool.cond, List.{List, [], _∷_, _++_}}
 use Prim.Native.Nat.{ℕ, zero, suc, _+_, _-_, _*_, _≤_, _<_}
 use native.Mathlib.{Nat.{le-antisymm, mul-le-mul-right, not-suc-le-zero}, Decide.decLt, Omega.arith}
 use lib.Dec.{eqb, eqb·suc-zero}
 use borrow.Author.Tests.{eq-eqb, ne-eqb}
 use Rattle.machine.specs.{Settings.width, Calls.{ask, turn}, History.turns}
-use Rattle.machine.specs.promises.{Demands.bound, Ranges.WithinLimits}
+use Rattle.machine.specs.promises.{Demands.bound, Light.lightBound, Ranges.WithinLimits}
 use Rattle.machine.specs.declared.{Settings.Settings, Event.Event}
-use Rattle.machine.proofs.histories.{Worst.{each, worstRow, worstRows, worst}, Served.bound-enough}
+use Rattle.machine.proofs.histories.Worst.{each, worstRow, worstRows, asks, descent, worst, worstLight}
+use Rattle.machine.proofs.histories.{Served.bound-enough, Light.light-enough}
 use Rattle.machine.proofs.histories.Leads.{EndsWith, ends-alone, ends-append, ends-nil, writtenTurns}
 use Rattle.machine.proofs.histories.Leads.{written-append}
 use Rattle.machine.proofs.bridge.AsGrid.{rulesOf}
@@ -35,7 +36,7 @@ written-each count (suc n) t =
     ∙ written-each count n _
     ∙ ap (λ (x : ℕ). x + count) (written-other count n t)
 
-written-asks : (n t : ℕ) → writtenTurns 0 (each (λ p. ask p ∷ []) (suc n)) t ≡ 0
+written-asks : (n t : ℕ) → writtenTurns 0 (asks (suc n)) t ≡ 0
 written-asks zero t = refl
 written-asks (suc n) t = written-asks n _
 
@@ -70,19 +71,43 @@ module _ (s : Settings) where
       go (inl e) = rw (eq-eqb (s .mode) 0 e) (mul-le-mul-right (s .k - 1) (omega arith))
       go (inr e) = rw (ne-eqb (s .mode) 0 (λ z. omega arith)) (mul-le-mul-right (s .k - 1) (omega arith))
 
-  pub worst-turns : (l : WithinLimits s) → writtenTurns 0 (worst s) 0 ≡ bound s
-  worst-turns l =
-      written-append 0 (each (λ p. ask p ∷ []) (s .k)) (worstRows s (s .k - 1)) 0
-      ∙ ap (writtenTurns 0 (worstRows s (s .k - 1))) (all-asks (s .k) (l .k-least))
-      ∙ written-rows (s .k - 1) 0 ∙ times (s .k - 1) (cost (rulesOf s l))
-      ∙ le-antisymm (bound-enough s l) (bound-needed l)
+  -- m - 1 of them and the last block, which task 0 has alone, are worth the bound of m
+  light-needed : (l : WithinLimits s) (m : ℕ) → 1 ≤ m → lightBound s m ≤ cost (rulesOf s l) * (m - 1) + (width s + 3)
+  light-needed l m some = go (l .modes)
     where
-      all-asks : (k : ℕ) → 1 ≤ k → writtenTurns 0 (each (λ p. ask p ∷ []) k) 0 ≡ 0
+      go : (s .mode ≡ 0) ⊎ (s .mode ≡ 1) → lightBound s m ≤ cost (rulesOf s l) * (m - 1) + (width s + 3)
+      go (inl e) = rw (eq-eqb (s .mode) 0 e, e) (omega arith)
+      go (inr e) = rw (ne-eqb (s .mode) 0 (λ z. omega arith), e) (omega arith)
+
+  descent-turns : (l : WithinLimits s) (m : ℕ) → 1 ≤ m
+      → writtenTurns 0 (descent s m) 0 ≡ cost (rulesOf s l) * (m - 1)
+  descent-turns l m some =
+      written-append 0 (asks m) (worstRows s (m - 1)) 0
+      ∙ ap (writtenTurns 0 (worstRows s (m - 1))) (all-asks m some)
+      ∙ written-rows (m - 1) 0 ∙ times (m - 1) (cost (rulesOf s l))
+    where
+      all-asks : (m : ℕ) → 1 ≤ m → writtenTurns 0 (asks m) 0 ≡ 0
       all-asks zero h = absurd (not-suc-le-zero h)
-      all-asks (suc k) h = written-asks k 0
+      all-asks (suc m) h = written-asks m 0
 
       times : (n each : ℕ) → 0 + n * each ≡ each * n
       times n each = omega arith
+
+  pub worst-turns : (l : WithinLimits s) → writtenTurns 0 (worst s) 0 ≡ bound s
+  worst-turns l = descent-turns l (s .k) (l .k-least) ∙ le-antisymm (bound-enough s l) (bound-needed l)
+
+  pub worst-light-turns : (l : WithinLimits s) (m : ℕ) → 1 ≤ m → writtenTurns 0 (worstLight s m) 0 ≡ lightBound s m
+  worst-light-turns l m some =
+      written-append 0 (descent s m) (turns (suc (width s)) 0 ++ turns 2 0) 0
+      ∙ ap (writtenTurns 0 (turns (suc (width s)) 0 ++ turns 2 0)) (descent-turns l m some)
+      ∙ written-append 0 (turns (suc (width s)) 0) (turns 2 0) _
+      ∙ written-own 2 _
+      ∙ ap (λ (x : ℕ). x + 2) (written-own (suc (width s)) _)
+      ∙ last-block (cost (rulesOf s l) * (m - 1)) (width s)
+      ∙ le-antisymm (light-enough s l m some) (light-needed l m some)
+    where
+      last-block : (before width : ℕ) → before + suc width + 2 ≡ before + (width + 3)
+      last-block before width = omega arith
 
 -- ---- the last call
 
@@ -105,6 +130,9 @@ module _ (s : Settings) where
   rows-end zero = ends-nil (row-end 0)
   rows-end (suc n) = ends-append (worstRow s (suc (suc n))) (rows-end n)
 
+  pub worst-light-end : (m : ℕ) → EndsWith (worstLight s m) (turn 0)
+  worst-light-end m = ends-append (descent s m) (ends-append (turns (suc (width s)) 0) (turns-end 1 0))
+
   pub record LastOwn : Type 0 where
     pub last : Event
     pub ends : EndsWith (worst s) last
@@ -117,7 +145,7 @@ module _ (s : Settings) where
       go : Dec (1 < s .k) → LastOwn
       go (yes h) =
           let e : s .k - 1 ≡ suc (s .k - 2) = omega arith in
-          let ends = ends-append (each (λ p. ask p ∷ []) (s .k)) (rows-end (s .k - 2)) in
+          let ends = ends-append (asks (s .k)) (rows-end (s .k - 2)) in
           record { last = turn 0; ends = rw e ends; its = refl; late = λ _. refl }
       go (no h) =
           let one : s .k ≡ 1 = omega (arith, l .k-least) in
