@@ -18,7 +18,7 @@ ghost use Prim.Native.Nat.{_+_, _≤_};
 ghost use lib.Dec.{T};
 ghost use Rattle.machine.specs.Settings.{permitted, own};
 ghost use Rattle.machine.specs.Places.{blockNumber};
-ghost use Rattle.machine.specs.Records.{recordInRange};
+ghost use Rattle.machine.specs.Records.{stateInRange};
 ghost use Rattle.machine.specs.Turn.{pointAccess, turnAccess, releaseAccess, opShown, shownBy};
 
 // The task's own mark in the block at (r, c) becomes `value`.
@@ -64,7 +64,7 @@ fn point_access(s: Settings, task: TaskId, r: u8, c: u8, point: Point) -> Access
 
 // The register that a turn touches: none where the task does not seek.
 pub fn turn_access(s: Settings, task: TaskId, this: Record) -> Access
-    requires { ⌜ T (permitted s) × T (recordInRange s this) ⌝ }
+    requires { ⌜ T (permitted s) × T (stateInRange s (this .state)) ⌝ }
     ensures { λ access. ⌜ access ≡ turnAccess s (task .0) (this .state) ⌝ }
 {
     let state = this.state;
@@ -78,7 +78,7 @@ pub fn turn_access(s: Settings, task: TaskId, this: Record) -> Access
 // The register that a release touches: the own mark of a block, and none on the edge or where the
 // task does not hold.
 pub fn release_access(s: Settings, task: TaskId, this: Record) -> Access
-    requires { ⌜ T (permitted s) × T (recordInRange s this) ⌝ }
+    requires { ⌜ T (permitted s) × T (stateInRange s (this .state)) ⌝ }
     ensures { λ access. ⌜ access ≡ releaseAccess s (task .0) (this .state) ⌝ }
 {
     let state = this.state;

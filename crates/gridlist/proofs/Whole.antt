@@ -9,7 +9,7 @@ use Rattle.printed.specs.{Listing.listing, Listed.listed}
 use Rattle.machine.specs.declared.{Refusal.Refusal, Writing.{Writing, the-variants.{Wrote, Refused}}}
 use Rattle.listing.proofs.Contract.{room-always}
 
-module _ (file room after : List ℕ) (long : 917549 ≤ length room) where
+module _ (file room after : List ℕ) (long : 917554 ≤ length room) where
   -- the listing stands at the start of the room, and its length is answered
   abbrev filled : List ℕ
   filled = listing file ++ drop (length (listing file)) room

@@ -44,11 +44,11 @@ fn first(input: &[u8], n: usize) -> &[u8]
     input
 }
 
-// Room for the longest listing: 45 bytes, and 56 for each of 16,384 events.
-fn longest() -> [u8; 917549]
-    ensures { λ room. ⌜ 917549 ≡ length room ⌝ }
+// Room for the longest listing: 50 bytes, and 56 for each of 16,384 events.
+fn longest() -> [u8; 917554]
+    ensures { λ room. ⌜ 917554 ≡ length room ⌝ }
 {
-    [0u8; 917549]
+    [0u8; 917554]
 }
 
 // The listing of the first n bytes of the buffer, as the part of the room that its text fills. Where
@@ -56,7 +56,7 @@ fn longest() -> [u8; 917549]
 // the buffer is longer than any file.
 fn listing_of<'a>(input: &[u8], n: usize, room: &'a mut [u8]) -> &'a mut [u8]
     requires { ⌜ fileLength mostEvents < length (now input) ⌝ }
-    requires { ⌜ 917549 ≤ length (now room) ⌝ }
+    requires { ⌜ 917554 ≤ length (now room) ⌝ }
     ensures text { λ text. ⌜ now text ≡ listing (take n (now (input .entry))) ⌝ }
     ensures all { λ text. ⌜ ((all : List ℕ) → take n (now (input .entry)) ≡ take (length (now (input .entry))) all → now text ≡ listing all) ⌝ }
 {

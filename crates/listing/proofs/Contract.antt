@@ -69,10 +69,10 @@ pub text-within : (file room after : List ℕ) (count : ℕ) → writtenOf (Wrot
     → count ≤ length after
 text-within file room after count is = within (listVerdict file room) room (listing file) after count is
 
--- 45 bytes and 56 for each of 16,384 events are room for any file
-pub room-always : (file : List ℕ) → roomFor file ≤ 917549
+-- 50 bytes and 56 for each of 16,384 events are room for any file
+pub room-always : (file : List ℕ) → roomFor file ≤ 917554
 room-always file = go (opening file) refl
   where
-    go : (o : Opening) → opening file ≡ o → roomBy o ≤ 917549
+    go : (o : Opening) → opening file ≡ o → roomBy o ≤ 917554
     go (Opening.Opened s count) is = let few = events-few file s count is in omega arith
     go (Opening.Refused why) is = omega arith

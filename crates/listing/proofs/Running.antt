@@ -1,18 +1,17 @@
 -- A run goes as the definition's progress: at its beginning, by one event more, and at its end.
 use mathlib.Core.{Path.{_≡_, refl, sym, ap, _∙_}, List.{List, _++_}}
-use Prim.Native.Nat.{ℕ, _+_, _*_, _≤_, _<_, max}
+use Prim.Native.Nat.{ℕ, _+_, _*_, _≤_, max}
 use native.Mathlib.{Numerals.add-one, Omega.arith}
-use lib.ListN.{length, getD, replicate}
-use Rattle.machine.specs.{Records.idle, Memory.{Memory, outOf, largest}, Calls.{Outcome, call, setup}}
+use lib.ListN.{length, replicate}
+use Rattle.machine.specs.{Records.idle, Memory.{Memory, turnsIn, outOf, largest}, Calls.{Outcome, call, setup}}
 use Rattle.machine.specs.{declared.{Settings.Settings, Event.Event}, Lent.lent}
 use Rattle.file.specs.File.{eventAt}
-use Rattle.printed.specs.Listing.{Progress, gridLine, eventLine, endLine, turnsAfter, completed, holdersOf, advanceBy}
+use Rattle.printed.specs.Listing.{Progress, gridLine, eventLine, endLine, completed, holdersOf, advanceBy}
 use Rattle.printed.specs.Listing.{advance, progress, ended}
 use Rattle.calls.specs.{Made.outcomeOf, declared.Call.Call}
 use Rattle.text.specs.Put.{Puts}
 use Rattle.report.{specs.Writes.Writes, proofs.Writing.{next, then, wider}}
 use Rattle.listing.specs.{declared.Standing.Standing, Standing.{progressOf, Begun, advanced, Advanced}}
-use Rattle.listing.proofs.Counting.{turns-few}
 
 setup-outcome : (s : Settings) (m : Memory) → outcomeOf s Call.Setup m ≡ setup s m
 unfolding outcomeOf
@@ -23,24 +22,22 @@ unfolding outcomeOf
 call-outcome s event m = refl
 
 module _ (s : Settings) (m : Memory) (room : List ℕ) (to : Standing) (left : Outcome) (room′ : List ℕ) where
-  -- what setup left, nobody's turns and the first line are the beginning
-  pub stands-begun : left ≡ outcomeOf s Call.Setup m → to .turns ≡ replicate 256 0 → to .peak ≡ 0 → to .most ≡ 0
+  -- what setup left and the first line are the beginning
+  pub stands-begun : left ≡ outcomeOf s Call.Setup m → to .peak ≡ 0 → to .most ≡ 0
       → Writes 23 room 0 (gridLine s) (to .at) room′ → Begun s m room to (left .memory) room′
-  stands-begun calls turns peak most line = record { stands = rw (sym calls, turns, peak, most); line = line }
+  stands-begun calls peak most line = record { stands = rw (sym calls, peak, most); line = line }
 
 module _ (s : Settings) (position : ℕ) (event : Event) (at : Standing) (m : Memory) (room : List ℕ)
     (to : Standing) (left : Outcome) (room′ : List ℕ) where
   -- what the call left, its line and the counts after it are one event more
   pub stands-advanced : left ≡ outcomeOf s (Call.Of event) m
-      → to .turns ≡ turnsAfter event (left .answer) (at .turns)
       → to .peak ≡ max (at .peak) (outOf s (left .memory .records))
       → to .most
-      ≡ max (at .most) (completed (left .answer .told)
-      (getD (turnsAfter event (left .answer) (at .turns)) (event .task .0) 0))
+      ≡ max (at .most) (completed (left .answer .told) (turnsIn (left .memory) (event .task .0)))
       → Writes 56 room (at .at) (eventLine position event (left .answer)) (to .at) room′
       → Advanced s position event at m room to (left .memory) room′
-  stands-advanced calls turns peak most line =
-      record { stands = rw (sym calls, turns, peak, most); line = rw (sym calls) line }
+  stands-advanced calls peak most line =
+      record { stands = rw (sym calls, peak, most); line = rw (sym calls) line }
 
 -- rows of zeros as long as the largest settings need, with as many idle records, are the memory that is lent
 pub fresh-rows : (xs marks : List ℕ) → xs ≡ replicate 120 0 → marks ≡ replicate 30720 0
@@ -58,7 +55,6 @@ pub record Stands (s : Settings) (file : List ℕ) (i : ℕ) (at : Standing) (m 
 abbrev after : List ℕ → Progress → Progress
 after lines p = record {
   memory = p .memory;
-  turns = p .turns;
   peak = p .peak;
   most = p .most;
   lines = lines ++ p .lines;
@@ -91,22 +87,14 @@ module _ (s : Settings) (file : List ℕ) where
       }
 
   pub ends : (i : ℕ) (at : Standing) (m : Memory) (first room : List ℕ) (holders to : ℕ) (room′ : List ℕ)
-      → 23 + 56 * i + 22 ≤ length first → Stands s file i at m first room → holders ≡ holdersOf s (m .records)
-      → Writes 22 room (at .at) (endLine holders (at .peak) (at .most)) to room′
+      → 23 + 56 * i + 27 ≤ length first → Stands s file i at m first room → holders ≡ holdersOf s (m .records)
+      → Writes 27 room (at .at) (endLine holders (at .peak) (at .most)) to room′
       → Puts first 0 (ended s (progress s file i)) to room′
   ends i at m first room holders to room′ fits before counted last =
-      rw (sym (before .stands), sym counted) (then (before .printed) 22 (omega arith) (λ more. last) .puts)
+      rw (sym (before .stands), sym counted) (then (before .printed) 27 (omega arith) (λ more. last) .puts)
 
 module _ {s : Settings} {file : List ℕ} {i : ℕ} {at : Standing} {m : Memory} {first room : List ℕ}
     (here : Stands s file i at m first room) where
   -- what is left of the room
   pub stands-room : (more : ℕ) → 23 + 56 * i + more ≤ length first → at .at + more ≤ length room
   stands-room more fits = next (here .printed) more (omega arith)
-
-  -- no count of turns is at its limit
-  pub stands-turns : (p : ℕ) → i < 65535 → getD (at .turns) p 0 < 65535
-  stands-turns p l =
-      let few = turns-few s file i p in
-      let same : getD (at .turns) p 0 ≡ getD (progress s file i .turns) p 0 =
-      ap (λ (q : Progress). getD (q .turns) p 0) (here .stands) in
-      omega arith

@@ -1,7 +1,6 @@
 -- What the two steps of a run leave: its beginning, and one event more.
 use mathlib.Core.{Path._≡_, List.{List, []}}
 use Prim.Native.Nat.{ℕ}
-use lib.ListN.{replicate}
 use Rattle.printed.specs.Listing.{Progress, gridLine, advanceBy}
 use Rattle.machine.specs.{declared.{Settings.Settings, Event.Event}, Memory.Memory}
 use Rattle.calls.specs.{Made.outcomeOf, declared.Call.Call}
@@ -12,7 +11,6 @@ use Rattle.listing.specs.declared.Standing.{Standing}
 abbrev pub progressOf : Standing → Memory → List ℕ → Progress
 progressOf standing memory lines = record {
   memory = memory;
-  turns = standing .turns;
   peak = standing .peak;
   most = standing .most;
   lines = lines;
@@ -22,7 +20,6 @@ progressOf standing memory lines = record {
 abbrev pub begun : Settings → Memory → Progress
 begun s memory = record {
   memory = outcomeOf s Call.Setup memory .memory;
-  turns = replicate 256 0;
   peak = 0;
   most = 0;
   lines = gridLine s;

@@ -3,7 +3,6 @@
 
 use calls::Call;
 use calls::make;
-use machine::Answer;
 use machine::Event;
 use machine::Kind;
 use machine::Opening;
@@ -25,23 +24,19 @@ ghost use lib.ListN.{length, getD, replicate};
 ghost use Rattle.machine.specs.Records.{idle};
 ghost use Rattle.counting.specs.Counting.{tick};
 ghost use Rattle.machine.specs.Memory.{largest};
-ghost use Rattle.machine.specs.Answers.{toldAccepted};
-ghost use Rattle.machine.specs.History.{counted};
 ghost use Rattle.file.specs.File.{eventAt, opening, writtenOf};
-ghost use Rattle.printed.specs.Listing.{turnsAfter, completed, progress, ended};
+ghost use Rattle.printed.specs.Listing.{completed, progress, ended};
 ghost use Rattle.machine.specs.Lent.{lent};
 ghost use Rattle.text.specs.Put.{Puts};
 ghost use Rattle.listing.specs.Counts.{counts, among};
 ghost use Rattle.listing.specs.Standing.{Begun, Advanced};
 ghost use Rattle.printed.specs.Listed.{listed};
 
-// Where a run stands: the records, each task's accepted turns since its accepted ask, PEAK and MOST
-// so far, and the index past the lines printed.
+// Where a run stands: the records, PEAK and MOST so far, and the index past the lines printed.
 struct Standing {
     records: [Record; 256],
-    turns: [u16; 256],
     peak: u16,
-    most: u16,
+    most: u32,
     at: usize,
 }
 
@@ -100,64 +95,30 @@ fn larger(a: u16, b: u16) -> u16
     a
 }
 
-// Whether a call was accepted.
-fn accepted(told: Told) -> bool
-    ensures { λ yes. ⌜ yes ≡ toldAccepted told ⌝ }
+// The larger of two counts of turns.
+fn more(a: u32, b: u32) -> u32
+    ensures { λ n. ⌜ n ≡ max a b ⌝ }
 {
-    match told {
-        Told::Done => true,
-        Told::Seeks => true,
-        Told::Holds(_) => true,
-        Told::Freed(_) => true,
-        Told::Refused(_) => false,
+    if a < b {
+        return b;
     }
+    a
 }
 
-// A count of turns after one more accepted call of the task: an ask begins anew, a turn adds one.
-fn counted(kind: Kind, turns: u16) -> u16
-    requires { ⌜ turns < 65535 ⌝ }
-    ensures { λ after. ⌜ after ≡ counted kind turns ⌝ }
-{
-    match kind {
-        Kind::Ask => 0,
-        Kind::Turn => turns + 1,
-        Kind::Release => turns,
-    }
-}
-
-// The counts of turns after one more call.
-fn turns_after(turns: [u16; 256], event: Event, answer: Answer) -> [u16; 256]
-    requires { ⌜ ((p : ℕ) → getD turns p 0 < 65535) ⌝ }
-    ensures { λ after. ⌜ after ≡ turnsAfter event answer turns ⌝ }
-{
-    let told = answer.told;
-    if !accepted(told) {
-        return turns;
-    }
-    let kind = event.kind;
-    let task = event.task;
-    let i = task.0 as usize;
-    if i >= 256 {
-        return turns;
-    }
-    let mut after = turns;
-    after[i] = counted(kind, turns[i]);
-    after
-}
-
-// The count of one task; 0 where there is none.
-fn turns_of(turns: [u16; 256], task: TaskId) -> u16
-    ensures { λ n. ⌜ n ≡ getD turns (task .0) 0 ⌝ }
+// The turns in the record of a task; 0 where there is none.
+fn turns_of(records: [Record; 256], task: TaskId) -> u32
+    ensures { λ n. ⌜ n ≡ getD records (task .0) idle .turns ⌝ }
 {
     let i = task.0 as usize;
     if i >= 256 {
         return 0;
     }
-    turns[i]
+    let one = records[i];
+    one.turns
 }
 
 // The turns that a completed acquisition used; 0 where the call completes none.
-fn completed(told: Told, turns: u16) -> u16
+fn completed(told: Told, turns: u32) -> u32
     ensures { λ n. ⌜ n ≡ completed told turns ⌝ }
 {
     match told {
@@ -175,14 +136,10 @@ fn completed(told: Told, turns: u16) -> u16
 fn idle_records() -> [Record; 256]
     ensures { λ records. ⌜ records ≡ replicate 256 idle ⌝ }
 {
-    [Record { state: State::Idle }; 256]
-}
-
-// Nobody has taken a turn.
-fn no_turns() -> [u16; 256]
-    ensures { λ turns. ⌜ turns ≡ replicate 256 0 ⌝ }
-{
-    [0u16; 256]
+    [Record {
+        state: State::Idle,
+        turns: 0,
+    }; 256]
 }
 
 // As many X numbers as the largest settings need, all 0.
@@ -209,7 +166,6 @@ fn begin(s: Settings, room: &mut [u8], xs: &mut [u32], marks: &mut [u8]) -> Stan
     let records = made.records;
     Standing {
         records: records,
-        turns: no_turns(),
         peak: 0,
         most: 0,
         at: at,
@@ -242,23 +198,20 @@ fn advance(
     xs: &mut [u32],
     marks: &mut [u8],
 ) -> Standing
-    requires { ⌜ (s .n ≤ 256) × ((p : ℕ) → getD (at .turns) p 0 < 65535) × (at .at + 56 ≤ length (now room)) ⌝ }
+    requires { ⌜ (s .n ≤ 256) × (at .at + 56 ≤ length (now room)) ⌝ }
     ensures { λ to. ⌜ Advanced s position event at (lent (at .records) (now (xs .entry)) (now (marks .entry))) (now (room .entry)) to (lent (to .records) (now (xs .exit)) (now (marks .exit))) (now (room .exit)) ⌝ }
 {
     let before = at.records;
     let made = make(s, Call::Of(event), before, xs, marks);
     let answer = made.answer;
     let records = made.records;
-    let counts = at.turns;
     let task = event.task;
-    let turns = turns_after(counts, event, answer);
     let told = answer.told;
-    let used = completed(told, turns_of(turns, task));
+    let used = completed(told, turns_of(records, task));
     Standing {
         records: records,
-        turns: turns,
         peak: larger(at.peak, among(s, records, Who::Out)),
-        most: larger(at.most, used),
+        most: more(at.most, used),
         at: put_event(room, at.at, position, event, answer),
     }
 }
@@ -272,7 +225,7 @@ fn run(
     xs: &mut [u32],
     marks: &mut [u8],
 ) -> usize
-    requires { ⌜ (opening (now file) ≡ Opening.Opened s count) × (lent (replicate 256 idle) (now xs) (now marks) ≡ largest) × (45 + 56 * count ≤ length (now room)) ⌝ }
+    requires { ⌜ (opening (now file) ≡ Opening.Opened s count) × (lent (replicate 256 idle) (now xs) (now marks) ≡ largest) × (50 + 56 * count ≤ length (now room)) ⌝ }
     ensures { λ to. ⌜ Puts (now (room .entry)) 0 (ended s (progress s (now (file .entry)) count)) to (now (room .exit)) ⌝ }
 {
     let mut standing = begin(s, room, xs, marks);
@@ -289,7 +242,7 @@ fn run(
 
 // The lines of an opened file.
 fn put_lines(file: &[u8], s: Settings, count: u16, room: &mut [u8]) -> usize
-    requires { ⌜ (opening (now file) ≡ Opening.Opened s count) × (45 + 56 * count ≤ length (now room)) ⌝ }
+    requires { ⌜ (opening (now file) ≡ Opening.Opened s count) × (50 + 56 * count ≤ length (now room)) ⌝ }
     ensures { λ to. ⌜ Puts (now (room .entry)) 0 (ended s (progress s (now (file .entry)) count)) to (now (room .exit)) ⌝ }
 {
     let mut xs = no_xs();
@@ -297,7 +250,7 @@ fn put_lines(file: &[u8], s: Settings, count: u16, room: &mut [u8]) -> usize
     run(file, s, count, room, &mut xs, &mut marks)
 }
 
-// Lists a schedule file: the text from the start of the room, and how long it is. 45 bytes and 56 for
+// Lists a schedule file: the text from the start of the room, and how long it is. 50 bytes and 56 for
 // each event are always enough; a shorter room is refused, and stays as it was.
 pub fn list(file: &[u8], room: &mut [u8]) -> Writing
     ensures { λ answer. ⌜ writtenOf answer (now (room .exit)) ≡ listed (now (file .entry)) (now (room .entry)) ⌝ }
@@ -311,7 +264,7 @@ pub fn list(file: &[u8], room: &mut [u8]) -> Writing
             Writing::Wrote(put_refused(room, why))
         }
         Opening::Opened { settings, count } => {
-            if room.len() < 45 + 56 * (count as usize) {
+            if room.len() < 50 + 56 * (count as usize) {
                 return Writing::Refused(Refusal::ShortRoom);
             }
             Writing::Wrote(put_lines(file, settings, count, room))

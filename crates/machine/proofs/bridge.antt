@@ -5,5 +5,6 @@ pub mod Turning
 pub mod Arriving
 pub mod AsGrid
 pub mod Steps
+pub mod Spending
 pub mod Histories
 pub mod Names

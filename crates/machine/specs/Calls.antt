@@ -1,11 +1,11 @@
--- 01, "Rules of the grid", and 02, P4 and P6: setup, ask, turn and release, from the memory before to the answer and
--- the memory after.
+-- 01, "Rules of the grid", and 02, P4, P6 and P7: setup, ask, turn and release, from the memory before to the answer
+-- and the memory after.
 use Prim.Native.Nat.{ℕ}
 use Rattle.machine.specs.Places.{blocks, nameNumber}
-use Rattle.machine.specs.Memory.{Memory, marksNeeded, stateOf, viewOf, withRecord, fill}
-use Rattle.machine.specs.{Turn.{access, value, store, shownBy, next}, Refusals.{setupVerdict, verdict}}
-use Rattle.machine.specs.Answers.{plain}
-use Rattle.machine.specs.declared.{Settings.Settings, Name.Name}
+use Rattle.machine.specs.Memory.{Memory, marksNeeded, stateOf, turnsIn, viewOf, withRecord, fill}
+use Rattle.machine.specs.Turn.{access, value, store, shownBy, next, turnsAfter}
+use Rattle.machine.specs.{Refusals.{setupVerdict, verdict}, Answers.plain}
+use Rattle.machine.specs.declared.{Settings.Settings, Name.Name, Record.Record}
 use Rattle.machine.specs.declared.State.{State, the-variants.{Idle, Seeking, Holding}}
 use Rattle.machine.specs.declared.{Kind.{Kind, the-variants.{Ask, Turn, Release}}, Event.Event, Verdict.Verdict}
 use Rattle.machine.specs.declared.{Shown.Shown, Told.Told, Answer.Answer}
@@ -53,6 +53,13 @@ toldOf s Release before after = freed s before
 abbrev pub nextState : Settings → Kind → ℕ → State → Memory → State
 nextState s kind p state m = next s kind p state (value s (access s kind p state) m)
 
+-- and the record that it leaves
+abbrev pub recordAfter : Settings → Kind → ℕ → State → Memory → Record
+recordAfter s kind p state m = record {
+  state = nextState s kind p state m;
+  turns = turnsAfter kind state (turnsIn m p);
+}
+
 -- what the call's access shows: the access itself, with the value that it reads
 abbrev pub shownOf : Settings → Kind → ℕ → State → Memory → Shown
 shownOf s kind p state m = shownBy (access s kind p state) (value s (access s kind p state) m)
@@ -61,7 +68,7 @@ shownOf s kind p state m = shownBy (access s kind p state) (value s (access s ki
 abbrev pub accept : Settings → Kind → ℕ → State → Memory → Outcome
 accept s kind p state m = record {
   answer = record { told = toldOf s kind state (nextState s kind p state m); shown = shownOf s kind p state m };
-  memory = withRecord p (record { state = nextState s kind p state m }) (store s (access s kind p state) m);
+  memory = withRecord p (recordAfter s kind p state m) (store s (access s kind p state) m);
 }
 
 -- a refused call answers why, and changes nothing

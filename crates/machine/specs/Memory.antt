@@ -27,6 +27,10 @@ recordOf m p = getD (m .records) p idle
 abbrev pub stateOf : Memory → ℕ → State
 stateOf m p = recordOf m p .state
 
+-- the turns that task p has used since its ask, as its record has them
+abbrev pub turnsIn : Memory → ℕ → ℕ
+turnsIn m p = recordOf m p .turns
+
 -- one element written, and nothing else
 abbrev pub withRecord : ℕ → Record → Memory → Memory
 withRecord p new m = record { records = set (m .records) p new; xs = m .xs; marks = m .marks }

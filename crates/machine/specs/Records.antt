@@ -1,14 +1,14 @@
--- 01, "Memory that is lent": what a task's record says, and which records are in range.
+-- 01, "Memory that is lent", and 02, P7: what a task's record says, and which records are in range.
 use mathlib.Core.Bool.{Bool, true, false, not, _&&_}
-use Prim.Native.Nat.{_+_}
+use Prim.Native.Nat.{ℕ, _+_}
 use lib.Dec.{eqb, leb, ltb}
-use Rattle.machine.specs.Settings.{width}
+use Rattle.machine.specs.Settings.{width, bound}
 use Rattle.machine.specs.declared.Settings.{Settings}
 use Rattle.machine.specs.declared.Point.{Point, the-variants.{WriteX, Scan, WriteMark, ReadX, Clear}}
 use Rattle.machine.specs.declared.{State.{State, the-variants.{Idle, Seeking, Holding}}, Record.Record}
 
 abbrev pub idle : Record
-idle = record { state = Idle }
+idle = record { state = Idle; turns = 0 }
 
 abbrev pub isIdle : State → Bool
 isIdle Idle = true
@@ -43,5 +43,11 @@ stateInRange s Idle = true
 stateInRange s (Seeking r c point) = leb (r + c + 2) (s .k) && pointInRange s point
 stateInRange s (Holding r c) = leb (r + c + 1) (s .k)
 
+-- the turns used: below the bound while the task seeks, at most the bound while it holds, none while it is idle
+abbrev pub turnsInRange : Settings → State → ℕ → Bool
+turnsInRange s Idle turns = eqb turns 0
+turnsInRange s (Seeking r c point) turns = ltb turns (bound s)
+turnsInRange s (Holding r c) turns = leb turns (bound s)
+
 abbrev pub recordInRange : Settings → Record → Bool
-recordInRange s this = stateInRange s (this .state)
+recordInRange s this = stateInRange s (this .state) && turnsInRange s (this .state) (this .turns)

@@ -87,13 +87,13 @@ taskCases s kind p seen =
     ∷ when (tooManyOut s kind (seen .out)) TooManyOut
     ∷ []
 
--- 18: a record of the N is other than idle
-abbrev pub rowBusy : View → Bool
-rowBusy seen = ltb 0 (seen .out)
+-- 18: a record of the N is other than idle: its task is out, or it is out of range
+abbrev pub rowBusy : Settings → View → Bool
+rowBusy s seen = ltb 0 (seen .out) || ltb (seen .bad) (s .n)
 
 -- setup tests 1, 2, 18
 abbrev pub setupVerdict : Settings → View → Memory → Verdict
-setupVerdict s seen m = first (lentCases s seen m (when (rowBusy seen) BusyRow ∷ []))
+setupVerdict s seen m = first (lentCases s seen m (when (rowBusy s seen) BusyRow ∷ []))
 
 -- the other calls all but 18
 abbrev pub verdict : Settings → Kind → ℕ → View → Memory → Verdict

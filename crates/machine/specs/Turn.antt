@@ -112,11 +112,23 @@ turned s p Idle v = Idle
 turned s p (Seeking r c point) v = pointTurned s p r c point v
 turned s p (Holding r c) v = Holding r c
 
-abbrev pub nextRecord : Settings → ℕ → Record → ℕ → Record
-nextRecord s p before v = record { state = turned s p (before .state) v }
-
 -- [5.1] an ask comes to (0, 0), which with k = 1 is the edge; a release leaves the task idle
 abbrev pub next : Settings → Kind → ℕ → State → ℕ → State
 next s Ask p state v = arrive s 0 0
 next s Turn p state v = turned s p state v
 next s Release p state v = Idle
+
+-- 02, P7: an ask begins to count turns, an accepted turn is one more, and a release has none
+abbrev pub turnsAfter : Kind → State → ℕ → ℕ
+turnsAfter Ask state turns = 0
+turnsAfter Turn Idle turns = turns
+turnsAfter Turn (Seeking r c point) turns = turns + 1
+turnsAfter Turn (Holding r c) turns = turns
+turnsAfter Release state turns = 0
+
+-- the record that a call leaves, where v is the value read
+abbrev pub nextRecord : Settings → Kind → ℕ → Record → ℕ → Record
+nextRecord s kind p before v = record {
+  state = next s kind p (before .state) v;
+  turns = turnsAfter kind (before .state) (before .turns);
+}

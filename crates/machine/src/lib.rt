@@ -5,7 +5,7 @@ ghost use mathlib.Core.Path.{_≡_};
 ghost use Prim.Native.Nat.{_+_, _≤_};
 ghost use lib.Dec.{T};
 ghost use Rattle.machine.specs.Answers.{numberOf};
-ghost use Rattle.machine.specs.Settings.{width};
+ghost use Rattle.machine.specs.Settings.{width, bound};
 ghost use Rattle.machine.specs.Records.{pointInRange, recordInRange};
 ghost use Rattle.machine.specs.Turn.{arrive, move, leave, pointTurned, nextRecord};
 
@@ -46,9 +46,11 @@ pub enum State {
     Holding { r: u8, c: u8 },
 }
 
-// A task's record, as it stands in the lent row.
+// A task's record, as it stands in the lent row: where the task is, and the accepted turns that it has
+// used since its ask; 0 while it is idle.
 pub struct Record {
     pub state: State,
+    pub turns: u32,
 }
 
 // A register: the X number of a block, or a mark, by its block and its place among the block's marks.
@@ -205,6 +207,21 @@ impl Refusal {
 }
 
 impl Settings {
+    // The most own turns that an acquisition takes, for any settings: (N+4)(k-1) long-lived, 4(k-1)
+    // one-time.
+    pub fn bound(self) -> u32
+        ensures { λ turns. ⌜ turns ≡ bound self ⌝ }
+    {
+        if self.k == 0 {
+            return 0;
+        }
+        let blocks = self.k as u32 - 1;
+        if self.mode == 0 {
+            return 4 * blocks;
+        }
+        (self.n as u32 + 4) * blocks
+    }
+
     // How many marks a block has: one one-time, one for each task long-lived.
     pub fn width(self) -> u16
         ensures { λ w. ⌜ w ≡ width self ⌝ }
@@ -306,13 +323,14 @@ impl Record {
     // record comes out. A task that does not seek has no turn, and its record stays.
     pub fn turned(self, s: Settings, task: TaskId, v: u32) -> Record
         requires { ⌜ T (recordInRange s self) ⌝ }
-        ensures { λ to. ⌜ to ≡ nextRecord s (task .0) self v ⌝ }
+        ensures { λ to. ⌜ to ≡ nextRecord s Kind.Turn (task .0) self v ⌝ }
     {
         let state = self.state;
         match state {
             State::Idle => self,
             State::Seeking { r, c, point } => Record {
                 state: s.turned(task, r, c, point, v),
+                turns: self.turns + 1,
             },
             State::Holding { r: _, c: _ } => self,
         }

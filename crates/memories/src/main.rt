@@ -72,25 +72,28 @@ fn case_at(input: &[u8], at: usize) -> Case {
     }
 }
 
-// Six bytes: the state, r, c, the point, and the place of a scan.
+// Ten bytes: the state, r, c, the point, the place of a scan, and the turns used.
 fn record_at(input: &[u8], at: usize) -> Record {
+    Record {
+        state: state_at(input, at),
+        turns: number(input, past(at, 6)),
+    }
+}
+
+fn state_at(input: &[u8], at: usize) -> State {
     let state = byte(input, at);
     if state == 0 {
-        return Record { state: State::Idle };
+        return State::Idle;
     }
     let r = byte(input, past(at, 1));
     let c = byte(input, past(at, 2));
     if state == 2 {
-        return Record {
-            state: State::Holding { r: r, c: c },
-        };
+        return State::Holding { r: r, c: c };
     }
-    Record {
-        state: State::Seeking {
-            r: r,
-            c: c,
-            point: point_at(input, past(at, 3)),
-        },
+    State::Seeking {
+        r: r,
+        c: c,
+        point: point_at(input, past(at, 3)),
     }
 }
 
@@ -116,12 +119,15 @@ fn point_at(input: &[u8], at: usize) -> Point {
 
 // 256 records, of which those of the case are lent.
 fn records_at(input: &[u8], at: usize) -> [Record; 256] {
-    let mut records = [Record { state: State::Idle }; 256];
+    let mut records = [Record {
+        state: State::Idle,
+        turns: 0,
+    }; 256];
     let mut at = at;
     let mut i: usize = 0;
     while i < 256 {
         records[i] = record_at(input, at);
-        at = past(at, 6);
+        at = past(at, 10);
         i += 1;
     }
     records
@@ -383,19 +389,34 @@ fn say_point(point: Point) {
     }
 }
 
+fn say_turns(turns: u32) {
+    say(b"/");
+    say_number(turns as u64);
+}
+
+// An idle record has no turns in range; where it has some they are told.
+fn say_idle(turns: u32) {
+    say(b" idle");
+    if turns != 0 {
+        say_turns(turns);
+    }
+}
+
 fn say_record(one: Record) {
     let state = one.state;
     match state {
-        State::Idle => say(b" idle"),
+        State::Idle => say_idle(one.turns),
         State::Seeking { r, c, point } => {
             say(b" seek/");
             say_place(r, c);
             say(b"/");
             say_point(point);
+            say_turns(one.turns);
         }
         State::Holding { r, c } => {
             say(b" hold/");
             say_place(r, c);
+            say_turns(one.turns);
         }
     }
 }
@@ -460,7 +481,7 @@ fn next(input: &[u8], at: usize) -> usize {
     let x_count = word(input, past(at, 11)) as usize;
     let mark_count = word(input, past(at, 13)) as usize;
     let first_record = past(at, 15);
-    let first_x = past(first_record, 6 * case.count as usize);
+    let first_x = past(first_record, 10 * case.count as usize);
     let first_mark = past(first_x, 4 * x_count);
     let mut xs = [0u32; 128];
     read_xs(input, first_x, &mut xs);

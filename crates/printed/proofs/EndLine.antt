@@ -5,14 +5,13 @@ use mathlib.Core.{Path.{_≡_, refl, sym, ap, _∙_}, Logic.{_⊎_, inl, inr}}
 use mathlib.Core.{Bool.{Bool, true, false, not, cond, _&&_, _||_}, List.{List, [], _∷_, _++_}}
 use Prim.Native.Nat.{ℕ, zero, suc, _≤_, _<_, max, zero-le}
 use native.Mathlib.{Nat.{le-refl, max-zero}, Omega.arith}
-use lib.{Dec.{T, eqb, ltb, eqb→eq}, ListN.{length, getD, set, replicate, length-set, length-replicate, getD-replicate}}
-use lib.Seq.{getD-set-same, getD-set-other}
-use borrow.Author.Tests.{eqb-true, eqb-false, lt-ltb, le-ltb}
-use Rattle.machine.specs.{Records.{idle, isHolding, isOut}, Memory.{Memory, stateOf, outOf, largest}}
+use lib.{Dec.{T, eqb, ltb, eqb→eq}, ListN.{getD, replicate}}
+use borrow.Author.Tests.{lt-ltb, le-ltb}
+use Rattle.machine.specs.{Records.{idle, isHolding, isOut}, Memory.{Memory, stateOf, turnsIn, outOf, largest}}
 use Rattle.machine.specs.Answers.{isAccepted}
 use Rattle.machine.specs.{Calls.{Outcome, nameAt, toldOf, call, setup}, History.{Answered, counted, turnsOf}}
-use Rattle.machine.specs.promises.Refusing.{tasksOut}
-use Rattle.machine.specs.promises.{Demands.{memoryAfter, historyOf, used, HoldsSome, bound}, OneAccess.AcceptedIn}
+use Rattle.machine.specs.{Settings.bound, promises.Refusing.tasksOut}
+use Rattle.machine.specs.promises.{Demands.{memoryAfter, historyOf, used, HoldsSome}, OneAccess.AcceptedIn}
 use Rattle.machine.specs.declared.{Settings.Settings, Name.Name, State.{State, the-variants.{Idle, Seeking, Holding}}}
 use Rattle.machine.specs.declared.{Kind.{Kind, the-variants.{Ask, Turn, Release}}, Event.Event, Told.Told}
 use Rattle.machine.specs.declared.Answer.{Answer}
@@ -20,11 +19,11 @@ use Rattle.machine.specs.declared.{Record.Record, Opening.Opening}
 use Rattle.machine.proofs.refusals.{Lines.tasks-out, Passing.{passed, by-the-rules}}
 use Rattle.machine.proofs.calls.{SettingUp.setup-clears, Effects.only-the-register-written-changes}
 use Rattle.machine.proofs.bridge.Histories.{run-keeps, run-append, history-append, call-few}
-use Rattle.machine.proofs.histories.{Served.turns-append, Demand3.{served-within, setup-takes}}
+use Rattle.machine.proofs.histories.{Served.turns-append, Demand3.{served-within, each-turns-told, setup-takes}}
 use Rattle.counting.specs.Counting.{tick, count, anyBelow}
 use Rattle.counting.proofs.{Lists.one-value, Searching.{count-same, count-none}}
 use Rattle.file.specs.File.{codeAt, taskAt, eventAt}
-use Rattle.printed.specs.Listing.{Progress, turnsAfter, completed, progress, listingBy, holdersOf}
+use Rattle.printed.specs.Listing.{Progress, completed, progress, listingBy, holdersOf}
 use Rattle.printed.specs.EndLine.{eventsOf, memoryAt, holdersAt, outAt, answerAt, Completes, takenAt, turnsSince}
 use Rattle.printed.specs.EndLine.{turnsAt, linesOf, Attained, NoneCounts, Greatest, EndLineCounted, EndCountsOne}
 use Rattle.printed.specs.EndLine.{UsedCounted, MostWithinBound, PeakWithin}
@@ -116,31 +115,33 @@ used-counted s file (suc n) p =
     omega arith)
     ∙ sym (since-more (takenAt s file Ask p) (takenAt s file Turn p) n)
 
--- the list of turns ticks at the task of an accepted call, and keeps its length
-module _ (event : Event) (answer : Answer) (turns : List ℕ) where
-  abbrev its : ℕ
-  its = event .task .0
+-- ---- who is told that it holds does
 
-  abbrev new : ℕ
-  new = counted (event .kind) (getD turns its 0)
+module _ (s : Settings) (name : Name) where
+  not-held : (told : Told) → completed told 1 ≡ 0 → told ≡ Told.Holds name → ⊥
+  not-held told none e = let one = ap (λ (other : Told). completed other 1) e in omega arith
 
-  turns-ticked : (p : ℕ) → p < length turns
-      → getD (turnsAfter event answer turns) p 0 ≡ ticked p event answer (getD turns p 0)
-  turns-ticked p l = go (isAccepted answer) (eqb its p) refl
-    where
-      go : (taken same : Bool) → eqb its p ≡ same
-          → getD (cond taken (set turns its new) turns) p 0 ≡ cond (taken && same)
-          (counted (event .kind) (getD turns p 0)) (getD turns p 0)
-      go true true e = let z = eqb-true its p e in rw (sym z) (getD-set-same turns its new 0 (rw z l))
-      go true false e = getD-set-other turns its p new 0 (λ f. eqb-false its p e (sym f))
-      go false same e = refl
+  -- who is answered that it holds does so in the record that the call leaves
+  standing-held : (after : State) → calls.standing s after ≡ Told.Holds name → T (isHolding after)
+  standing-held Idle e = absurd (not-held Told.Seeks refl e)
+  standing-held (Seeking r c point) e = absurd (not-held Told.Seeks refl e)
+  standing-held (Holding r c) e = tt
 
-  turns-long : length (turnsAfter event answer turns) ≡ length turns
-  turns-long = go (isAccepted answer)
-    where
-      go : (taken : Bool) → length (cond taken (set turns its new) turns) ≡ length turns
-      go true = length-set turns its new
-      go false = refl
+  answer-held : (kind : Kind) (before after : State) → toldOf s kind before after ≡ Told.Holds name
+      → T (isHolding after)
+  answer-held Ask before after e = standing-held after e
+  answer-held Turn before after e = standing-held after e
+  answer-held Release Idle after e = absurd (not-held Told.Seeks refl e)
+  answer-held Release (Seeking r c point) after e = absurd (not-held Told.Seeks refl e)
+  answer-held Release (Holding r c) after e = absurd (not-held (Told.Freed (nameAt s r c)) refl e)
+
+  held-after : (event : Event) (m : Memory) → call s event m .answer .told ≡ Told.Holds name
+      → HoldsSome (call s event m .memory) (event .task .0)
+  held-after event m e =
+      let accepted : AcceptedIn s event m = rw e tt in
+      rw (ap (λ (r : Record). r .state) (only-the-register-written-changes s event m accepted .own))
+      (answer-held (event .kind) (stateOf m (event .task .0)) _
+      (sym (ap (λ (o : Outcome). o .answer .told) (by-the-rules s event m accepted)) ∙ e))
 
 -- ---- the run
 
@@ -196,29 +197,19 @@ module _ (s : Settings) (file : List ℕ) where
 
   -- ---- MOST
 
-  -- the list of turns has an entry for each of 256 tasks, and it is the history's count
-  turns-all : (n : ℕ) → length (standing n .turns) ≡ 256
-  turns-all zero = length-replicate {A = ℕ} 256 0
-  turns-all (suc n) = turns-long (eventAt file n) (answered n) (standing n .turns) ∙ turns-all n
-
-  turns-kept : (p : ℕ) → p < 256 → (n : ℕ) → getD (standing n .turns) p 0 ≡ used s largest (eventsOf file n) p
-  turns-kept p l zero = getD-replicate 256 p 0 0 l
-  turns-kept p l (suc n) =
-      turns-ticked (eventAt file n) (answered n) (standing n .turns) p (rw (turns-all n) l)
-      ∙ rw (answer-kept n, turns-kept p l n) (sym (used-more s largest (eventsOf file n) (eventAt file n) p))
-
-  -- whoever is answered that it holds is one of the N tasks, and those are at most 256
-  completing-task : (n : ℕ) → Completes s file n → taskAt file n .0 < 256
-  completing-task n (name, e) =
-      let accepted = passed s (eventAt file n) (memoryAt s file n) (rw e tt) in
-      let few = accepted .limits .n-most in
-      let low = accepted .may .known in
-      omega arith
-
+  -- whoever is told that it holds does so, with the turns that it has used in its record
   completed-turns : (n : ℕ) → Completes s file n
-      → getD (standing (suc n) .turns) (taskAt file n .0) 0 ≡ turnsAt s file n
-  completed-turns n c = turns-kept (taskAt file n .0) (completing-task n c) (suc n)
-      ∙ used-counted s file (suc n) (taskAt file n .0)
+      → turnsIn (standing (suc n) .memory) (taskAt file n .0) ≡ turnsAt s file n
+  completed-turns n (name, e) =
+      let p = taskAt file n .0 in
+      let tests = passed s (eventAt file n) (memoryAt s file n) (rw e tt) in
+      let holds : HoldsSome (memoryAt s file (suc n)) p =
+      rw (run-append s (eventsOf file n) (eventAt file n ∷ []) (setup s largest .memory))
+      (held-after s name (eventAt file n) (memoryAt s file n) e) in
+      ap (λ (m : Memory). turnsIn m p) (memory-kept (suc n))
+      ∙ each-turns-told s largest (eventsOf file (suc n)) (setup-takes s (tests .limits)) p (tests .may .known)
+      .counted (inr holds)
+      ∙ used-counted s file (suc n) p
 
   abbrev TurnsMost : ℕ → ℕ → Type 0
   TurnsMost n a = Greatest n (Completes s file) (turnsAt s file) a
@@ -231,7 +222,7 @@ module _ (s : Settings) (file : List ℕ) where
       (λ c. let one = ap (λ (other : Told). completed other 1) (sym e ∙ c .1) in omega arith) g)
 
   most-more : (n a : ℕ) (told : Told) → answerAt s file n .told ≡ told → TurnsMost n a
-      → TurnsMost (suc n) (max a (completed told (getD (standing (suc n) .turns) (taskAt file n .0) 0)))
+      → TurnsMost (suc n) (max a (completed told (turnsIn (standing (suc n) .memory) (taskAt file n .0))))
   most-more n a Told.Done e g = not-completed n a Told.Done e refl g
   most-more n a Told.Seeks e g = not-completed n a Told.Seeks e refl g
   most-more n a (Told.Holds name) e g =
@@ -245,32 +236,6 @@ module _ (s : Settings) (file : List ℕ) where
       (ap (λ (answer : Answer). answer .told) (sym (answer-kept n))) (most-kept n)
 
 -- ---- MOST within the bound
-
-module _ (s : Settings) (name : Name) where
-  not-held : (told : Told) → completed told 1 ≡ 0 → told ≡ Told.Holds name → ⊥
-  not-held told none e = let one = ap (λ (other : Told). completed other 1) e in omega arith
-
-  -- who is answered that it holds does so in the record that the call leaves
-  standing-held : (after : State) → calls.standing s after ≡ Told.Holds name → T (isHolding after)
-  standing-held Idle e = absurd (not-held Told.Seeks refl e)
-  standing-held (Seeking r c point) e = absurd (not-held Told.Seeks refl e)
-  standing-held (Holding r c) e = tt
-
-  answer-held : (kind : Kind) (before after : State) → toldOf s kind before after ≡ Told.Holds name
-      → T (isHolding after)
-  answer-held Ask before after e = standing-held after e
-  answer-held Turn before after e = standing-held after e
-  answer-held Release Idle after e = absurd (not-held Told.Seeks refl e)
-  answer-held Release (Seeking r c point) after e = absurd (not-held Told.Seeks refl e)
-  answer-held Release (Holding r c) after e = absurd (not-held (Told.Freed (nameAt s r c)) refl e)
-
-  held-after : (event : Event) (m : Memory) → call s event m .answer .told ≡ Told.Holds name
-      → HoldsSome (call s event m .memory) (event .task .0)
-  held-after event m e =
-      let accepted : AcceptedIn s event m = rw e tt in
-      rw (only-the-register-written-changes s event m accepted .own)
-      (answer-held (event .kind) (stateOf m (event .task .0)) _
-      (sym (ap (λ (o : Outcome). o .answer .told) (by-the-rules s event m accepted)) ∙ e))
 
 -- an acquisition that is completed took no more turns than demand 3 allows
 completed-within : (s : Settings) (file : List ℕ) (i : ℕ) → Completes s file i → turnsAt s file i ≤ bound s

@@ -7,10 +7,10 @@ use Rattle.machine.specs.declared.{Opening.Opening, Refusal.the-variants.ShortR
 use Rattle.file.specs.File.{opening, Written, writtenOf}
 use Rattle.printed.specs.Listing.{listing}
 
--- room that is enough for every listing: 23 bytes for the first line, 56 for an event's, 22 for the last; 14 where the
+-- room that is enough for every listing: 23 bytes for the first line, 56 for an event's, 27 for the last; 14 where the
 -- file is refused
 abbrev pub roomBy : Opening → ℕ
-roomBy (Opening.Opened settings count) = 45 + 56 * count
+roomBy (Opening.Opened settings count) = 50 + 56 * count
 roomBy (Opening.Refused why) = 14
 
 abbrev pub roomFor : List ℕ → ℕ

@@ -7,11 +7,11 @@ use Rattle.machine.specs.promises.Refusing.{Line, line, NoneHolds, RefusedExact
 use Rattle.file.specs.{File.writingSaid, Refusing.{sixteen, openLines}}
 use Rattle.printed.specs.{Listing.listing, Listed.listed}
 
--- 14: output room short. Of a file that opens 45 bytes and 56 an event are asked for, of one that does not 14 bytes
+-- 14: output room short. Of a file that opens 50 bytes and 56 an event are asked for, of one that does not 14 bytes
 -- (docs/DECISIONS.md)
 abbrev pub RoomShort : List ℕ → List ℕ → Type 0
 RoomShort file room =
-    (NoneHolds (openLines file) × (length room < 45 + 56 * sixteen file 9))
+    (NoneHolds (openLines file) × (length room < 50 + 56 * sixteen file 9))
     ⊎ ((NoneHolds (openLines file) → ⊥) × (length room < 14))
 
 abbrev pub listLines : List ℕ → List ℕ → List Line

@@ -14,8 +14,8 @@ use places::name_at;
 ghost use mathlib.Core.Path.{_≡_};
 ghost use lib.Dec.{T};
 ghost use Rattle.machine.specs.Settings.{permitted};
-ghost use Rattle.machine.specs.Records.{recordInRange, isIdle, isSeeking, isHolding};
-ghost use Rattle.machine.specs.Turn.{access, next};
+ghost use Rattle.machine.specs.Records.{stateInRange, recordInRange, isIdle, isSeeking, isHolding};
+ghost use Rattle.machine.specs.Turn.{access, nextRecord};
 ghost use Rattle.machine.specs.Calls.{standing, freed, toldOf};
 
 // Whether the task is idle.
@@ -52,7 +52,7 @@ pub fn is_holding(this: Record) -> bool
 
 // The register that a call touches: none for an ask.
 pub fn access(s: Settings, kind: Kind, task: TaskId, this: Record) -> Access
-    requires { ⌜ T (permitted s) × T (recordInRange s this) ⌝ }
+    requires { ⌜ T (permitted s) × T (stateInRange s (this .state)) ⌝ }
     ensures { λ touch. ⌜ touch ≡ access s kind (task .0) (this .state) ⌝ }
 {
     match kind {
@@ -65,20 +65,24 @@ pub fn access(s: Settings, kind: Kind, task: TaskId, this: Record) -> Access
 // The record after an accepted call, where v is the value that its access read.
 pub fn next(s: Settings, kind: Kind, task: TaskId, this: Record, v: u32) -> Record
     requires { ⌜ T (permitted s) × T (recordInRange s this) ⌝ }
-    ensures { λ to. ⌜ to ≡ record { state = next s kind (task .0) (this .state) v } ⌝ }
+    ensures { λ to. ⌜ to ≡ nextRecord s kind (task .0) this v ⌝ }
 {
     match kind {
         Kind::Ask => Record {
             state: s.arrive(0, 0),
+            turns: 0,
         },
         Kind::Turn => this.turned(s, task, v),
-        Kind::Release => Record { state: State::Idle },
+        Kind::Release => Record {
+            state: State::Idle,
+            turns: 0,
+        },
     }
 }
 
 // What an ask or a turn tells that leaves this record: "seeks", or "holds" with the name.
 fn standing(s: Settings, this: Record) -> Told
-    requires { ⌜ T (permitted s) × T (recordInRange s this) ⌝ }
+    requires { ⌜ T (permitted s) × T (stateInRange s (this .state)) ⌝ }
     ensures { λ told. ⌜ told ≡ standing s (this .state) ⌝ }
 {
     let state = this.state;
@@ -91,7 +95,7 @@ fn standing(s: Settings, this: Record) -> Told
 
 // What a release tells that finds this record: the freed name.
 fn freed(s: Settings, this: Record) -> Told
-    requires { ⌜ T (permitted s) × T (recordInRange s this) ⌝ }
+    requires { ⌜ T (permitted s) × T (stateInRange s (this .state)) ⌝ }
     ensures { λ told. ⌜ told ≡ freed s (this .state) ⌝ }
 {
     let state = this.state;
@@ -104,7 +108,7 @@ fn freed(s: Settings, this: Record) -> Told
 
 // What an accepted call tells, from the record before it and the record after it.
 pub fn told(s: Settings, kind: Kind, before: Record, after: Record) -> Told
-    requires { ⌜ T (permitted s) × T (recordInRange s before) × T (recordInRange s after) ⌝ }
+    requires { ⌜ T (permitted s) × T (stateInRange s (before .state)) × T (stateInRange s (after .state)) ⌝ }
     ensures { λ told. ⌜ told ≡ toldOf s kind (before .state) (after .state) ⌝ }
 {
     match kind {

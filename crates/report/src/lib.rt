@@ -193,23 +193,15 @@ fn put_told(room: &mut [u8], at: usize, kind: Kind, told: Told, shown: Shown) ->
 
 // ---- lines
 
-// The line of a text and three numbers.
-fn numbers(room: &mut [u8], at: usize, label: &[u8], a: u16, b: u16, c: u16) -> usize
-    requires { ⌜ at + (length (now label) + 18) ≤ length (now room) ⌝ }
-    ensures { λ to. ⌜ Writes (length (now (label .entry)) + 18) (now (room .entry)) at ((now (label .entry) ++ decimal a) ++ (space ++ (decimal b ++ (space ++ (decimal c ++ lineFeed))))) to (now (room .exit)) ⌝ }
-{
-    let at = labelled(room, at, label, a);
-    let at = labelled(room, at, b" ", b);
-    let at = labelled(room, at, b" ", c);
-    line_feed(room, at)
-}
-
 // The line `grid MODE N K`, at the start of the room.
 pub fn put_grid(room: &mut [u8], s: Settings) -> usize
     requires { ⌜ 23 ≤ length (now room) ⌝ }
     ensures { λ to. ⌜ Writes 23 (now (room .entry)) 0 (gridLine s) to (now (room .exit)) ⌝ }
 {
-    numbers(room, 0, b"grid ", s.mode as u16, s.n, s.k as u16)
+    let at = labelled(room, 0, b"grid ", s.mode as u16);
+    let at = labelled(room, at, b" ", s.n);
+    let at = labelled(room, at, b" ", s.k as u16);
+    line_feed(room, at)
 }
 
 // The line `POSITION KIND ID ANSWER`, with the fields of the access behind the answer.
@@ -229,11 +221,15 @@ pub fn put_event(room: &mut [u8], at: usize, position: u16, event: Event, answer
 }
 
 // The line `end HOLDERS PEAK MOST`.
-pub fn put_end(room: &mut [u8], at: usize, holders: u16, peak: u16, most: u16) -> usize
-    requires { ⌜ at + 22 ≤ length (now room) ⌝ }
-    ensures { λ to. ⌜ Writes 22 (now (room .entry)) at (endLine holders peak most) to (now (room .exit)) ⌝ }
+pub fn put_end(room: &mut [u8], at: usize, holders: u16, peak: u16, most: u32) -> usize
+    requires { ⌜ at + 27 ≤ length (now room) ⌝ }
+    ensures { λ to. ⌜ Writes 27 (now (room .entry)) at (endLine holders peak most) to (now (room .exit)) ⌝ }
 {
-    numbers(room, at, b"end ", holders, peak, most)
+    let at = labelled(room, at, b"end ", holders);
+    let at = labelled(room, at, b" ", peak);
+    let at = copy(room, at, b" ");
+    let at = value(room, at, most);
+    line_feed(room, at)
 }
 
 // The line of a file that does not open.

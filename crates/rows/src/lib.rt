@@ -51,7 +51,10 @@ pub fn put(row: &mut [Record], i: usize, r: Record)
 fn idle() -> Record
     ensures { λ r. ⌜ r ≡ idle ⌝ }
 {
-    Record { state: State::Idle }
+    Record {
+        state: State::Idle,
+        turns: 0,
+    }
 }
 
 // The first out of range of the records before i + 1, from that before i and the record at i.

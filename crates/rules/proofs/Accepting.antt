@@ -3,7 +3,8 @@ use mathlib.Core.{Path.{_≡_, sym, subst, ap}, Bool.false}
 use Prim.Native.Nat.{ℕ, _<_}
 use lib.Dec.{T}
 use borrow.Author.Tests.{leb-false, not-false}
-use Rattle.machine.specs.{Settings.permitted, Records.recordInRange, Memory.Memory, Turn.{access, next}}
+use Rattle.machine.specs.{Settings.permitted, Records.{stateInRange, turnsInRange, recordInRange}}
+use Rattle.machine.specs.{Memory.Memory, Turn.{access, nextRecord}}
 use Rattle.machine.specs.Refusals.{wrongMoment, lentCases, rangeCases, taskCases, verdict}
 use Rattle.machine.specs.promises.OneAccess.{RegisterNeeded, Writable}
 use Rattle.machine.specs.declared.{Settings.Settings, View.View, Record.Record, Access.Access, Kind.Kind}
@@ -12,6 +13,7 @@ use Rattle.machine.proofs.refusals.{Deciding.no-case, Limits.limits, Passed.{Lo
 use Rattle.machine.proofs.calls.OneAccess.{access-needed}
 use Rattle.registers.specs.Touching.{Accessed, touched, touching}
 use Rattle.rules.specs.Decision.{Sees}
+use Rattle.counting.proofs.Bools.{and-l}
 use Rattle.machine.proofs.calls.Fitting as fitting
 
 pub record SeenPassed (s : Settings) (kind : Kind) (p : ℕ) (seen : View) (m : Memory) : Type 0 where
@@ -20,6 +22,7 @@ pub record SeenPassed (s : Settings) (kind : Kind) (p : ℕ) (seen : View) (m : 
   pub known : p < s .n
   pub moment : wrongMoment kind (seen .own .state) ≡ false
   pub own-in-range : T (recordInRange s (seen .own))
+  pub state-good : T (stateInRange s (seen .own .state))
 
 pub seen-passed : (s : Settings) (kind : Kind) (p : ℕ) (seen : View) (m : Memory) → Sees s p seen
     → verdict s kind p seen m ≡ Verdict.Accepted → SeenPassed s kind p seen m
@@ -33,6 +36,8 @@ seen-passed s kind p seen m sees e =
       known = known;
       moment = moment;
       own-in-range = sees records known;
+      state-good = and-l (stateInRange s (seen .own .state)) (turnsInRange s (seen .own .state) (seen .own .turns))
+          (sees records known);
     }
 
 module _ {s : Settings} {kind : Kind} {p : ℕ} {seen : View} {m : Memory} (ok : SeenPassed s kind p seen m)
@@ -41,7 +46,7 @@ module _ {s : Settings} {kind : Kind} {p : ℕ} {seen : View} {m : Memory} (ok :
   -- the access is of a register that is needed
   pub touch-needed : RegisterNeeded s touch
   touch-needed = rw is (access-needed s (limits s (ok .limits)) p (ok .known) kind (seen .own .state)
-      (ok .own-in-range))
+      (ok .state-good))
 
   -- and what it writes may stand there
   pub touch-writable : Writable s touch
@@ -49,9 +54,9 @@ module _ {s : Settings} {kind : Kind} {p : ℕ} {seen : View} {m : Memory} (ok :
 
   -- the record after it is in range
   pub next-in-range : (v : ℕ) (left : Memory) (new : Record) → touched v left ≡ touching s touch m
-      → new ≡ record { state = next s kind p (seen .own .state) v } → T (recordInRange s new)
+      → new ≡ nextRecord s kind p (seen .own) v → T (stateInRange s (new .state))
   next-in-range v left new read stands =
       let value = ap (λ (t : Accessed). t .value) read in
       let good =
-      fitting.next-in-range s (limits s (ok .limits)) kind p (seen .own .state) m (ok .moment) (ok .own-in-range) in
+      fitting.next-in-range s (limits s (ok .limits)) kind p (seen .own .state) m (ok .moment) (ok .state-good) in
       rw (stands, value, is) good

@@ -2,7 +2,7 @@
 -- its record and its answer.
 use mathlib.Core.Path.{_≡_, ap}
 use Prim.Native.Nat.{ℕ}
-use Rattle.machine.specs.{Memory.Memory, Turn.{access, shownBy, next}, Calls.toldOf, Answers.plain}
+use Rattle.machine.specs.{Memory.Memory, Turn.{access, shownBy, nextRecord}, Calls.toldOf, Answers.plain}
 use Rattle.machine.specs.declared.{Settings.Settings, Record.Record, View.View, Kind.Kind, Access.Access}
 use Rattle.machine.specs.declared.{Refusal.Refusal, Verdict.Verdict, Shown.Shown, Told.Told}
 use Rattle.machine.specs.Refusals.{verdict}
@@ -18,7 +18,7 @@ module _ (s : Settings) (kind : Kind) (p : ℕ) (seen : View) (m : Memory) where
       → verdict s kind p seen m ≡ Verdict.Accepted
       → touch ≡ access s kind p (seen .own .state)
       → touched v left ≡ touching s touch m
-      → own ≡ record { state = next s kind p (seen .own .state) v }
+      → own ≡ nextRecord s kind p (seen .own) v
       → told ≡ toldOf s kind (seen .own .state) (own .state)
       → shown ≡ shownBy touch v
       → decided (record { answer = record { told = told; shown = shown }; own = own }) left ≡ decision s kind p seen m

@@ -60,7 +60,7 @@ verdict-parts s kind p seen m =
 
 pub setup-parts : (s : Settings) (seen : View) (m : Memory)
     → setupVerdict s seen m
-    ≡ then (first (lentCases s seen m [])) (first (when (rowBusy seen) Refusal.BusyRow ∷ []))
+    ≡ then (first (lentCases s seen m [])) (first (when (rowBusy s seen) Refusal.BusyRow ∷ []))
 setup-parts s seen m =
     two-then (outsideLimits s) (rowShort s (seen .length) m) Refusal.Limits Refusal.ShortRow
-    (first (when (rowBusy seen) Refusal.BusyRow ∷ []))
+    (first (when (rowBusy s seen) Refusal.BusyRow ∷ []))

@@ -3,7 +3,7 @@
 use mathlib.Core.{Path._≡_, Bool.false}
 use Prim.Native.Nat.{ℕ, _<_}
 use lib.Dec.{T, ltb}
-use Rattle.machine.specs.{Records.recordInRange, Memory.Memory, Turn.{access, store}}
+use Rattle.machine.specs.{Records.recordInRange, Memory.Memory, Turn.{access, store, turnsAfter}}
 use Rattle.machine.specs.Refusals.{setupVerdict, verdict}
 use Rattle.machine.specs.Calls.{Outcome, refuseOr, nextState, shownOf, toldOf, cleared}
 use Rattle.machine.specs.Answers.{plain}
@@ -29,7 +29,10 @@ decisionBy Verdict.Accepted s kind p seen m = record {
     told = toldOf s kind (seen .own .state) (nextState s kind p (seen .own .state) m);
     shown = shownOf s kind p (seen .own .state) m;
   };
-  own = record { state = nextState s kind p (seen .own .state) m };
+  own = record {
+    state = nextState s kind p (seen .own .state) m;
+    turns = turnsAfter kind (seen .own .state) (seen .own .turns);
+  };
   memory = store s (access s kind p (seen .own .state)) m;
 }
 decisionBy (Verdict.Refused why) s kind p seen m = record {

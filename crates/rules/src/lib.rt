@@ -19,7 +19,7 @@ ghost use mathlib.Core.Bool.{false};
 ghost use mathlib.Core.List.{[]};
 ghost use lib.Dec.{T};
 ghost use Rattle.machine.specs.Settings.{permitted};
-ghost use Rattle.machine.specs.Refusals.{first, rowShort, setupVerdict, lentCases, rangeCases, taskCases, oneTimeRelease, wrongMoment, moment, tooManyOut, verdict};
+ghost use Rattle.machine.specs.Refusals.{first, rowShort, setupVerdict, lentCases, rangeCases, taskCases, oneTimeRelease, wrongMoment, moment, tooManyOut, rowBusy, verdict};
 ghost use Rattle.registers.specs.Touching.{rows};
 ghost use Rattle.rules.specs.Decision.{Sees, decided, decision, preparation};
 ghost use Rattle.machine.specs.Answers.{plain};
@@ -165,6 +165,16 @@ fn verdict(s: Settings, kind: Kind, seen: View, xs: &[u32], marks: &[u8], task: 
     }
 }
 
+// A record of the N is other than idle: its task is out, or it is out of range.
+fn row_busy(s: Settings, seen: View) -> bool
+    ensures { λ yes. ⌜ yes ≡ rowBusy s seen ⌝ }
+{
+    if 0 < seen.out {
+        return true;
+    }
+    seen.bad < s.n as usize
+}
+
 // What the tests of setup say: 1, 2, 18.
 fn setup_verdict(s: Settings, seen: View, xs: &[u32], marks: &[u8]) -> Verdict
     ensures { λ v. ⌜ v ≡ setupVerdict s seen (rows (now (xs .entry)) (now (marks .entry))) ⌝ }
@@ -172,7 +182,7 @@ fn setup_verdict(s: Settings, seen: View, xs: &[u32], marks: &[u8]) -> Verdict
     match lent_verdict(s, seen, xs, marks) {
         Verdict::Refused(why) => Verdict::Refused(why),
         Verdict::Accepted => {
-            if 0 < seen.out {
+            if row_busy(s, seen) {
                 return Verdict::Refused(Refusal::BusyRow);
             }
             Verdict::Accepted

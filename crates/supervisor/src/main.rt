@@ -27,7 +27,10 @@ fn board() -> Settings {
 
 // Records for a board of any size, all idle.
 fn fresh() -> [Record; 256] {
-    [Record { state: State::Idle }; 256]
+    [Record {
+        state: State::Idle,
+        turns: 0,
+    }; 256]
 }
 
 fn say(text: &[u8]) {

@@ -3,7 +3,7 @@
 use std::fmt;
 
 use crate::access::Access;
-use crate::grid::{Identifier, Name, Place, Point, Record, Registers, Settings};
+use crate::grid::{Identifier, Name, Place, Point, Record, Registers, Settings, State};
 use crate::refusal::{Refusal, Row};
 use crate::rules::Rules;
 use crate::schedule::Kind;
@@ -48,7 +48,7 @@ impl Memory {
     pub fn idle(rules: &dyn Rules, settings: Settings) -> Memory {
         let needed = Needed::new(rules, settings);
         Memory {
-            records: vec![Record::Idle; needed.records],
+            records: vec![Record::IDLE; needed.records],
             registers: Registers { x: vec![0; needed.x], marks: vec![0; needed.marks] },
         }
     }
@@ -115,63 +115,81 @@ pub fn setup(
     rules.setup(settings, memory)
 }
 
-/// Ask tests 1 to 4, 16 and 17, then 7.
-pub fn ask(
+/// Ask, turn or release: tests 1 to 4, then those of its kind. The figure in the task's record follows.
+pub fn call(
     rules: &dyn Rules,
     settings: Settings,
+    kind: Kind,
     id: Identifier,
     memory: &mut Memory,
 ) -> Result<Answer, Refusal> {
     let p = test_task(rules, settings, id, memory)?;
-    rules.test_ask(settings, &memory.records[..settings.tasks()], p)?;
-    let start = Place { r: 0, c: 0 };
-    memory.records[p] = if settings.k() == 1 {
-        Record::Holding(start)
-    } else {
-        Record::Seeking(start, Point::WriteX)
+    let answer = match kind {
+        Kind::Ask => ask(rules, settings, p, memory),
+        Kind::Turn => turn(rules, settings, p, memory),
+        Kind::Free => release(rules, settings, p, memory),
     };
-    Ok(Answer::Asked(stand(rules, settings, memory.records[p])))
+    memory.records[p].figure = rules.figure(settings, kind, memory.records[p], answer.is_ok());
+    answer
 }
 
-/// Turn tests 1 to 4, 15 and 17.
-pub fn turn(
+/// Ask tests 16 and 17, then 7.
+fn ask(
     rules: &dyn Rules,
     settings: Settings,
-    id: Identifier,
+    p: usize,
     memory: &mut Memory,
 ) -> Result<Answer, Refusal> {
-    let p = test_task(rules, settings, id, memory)?;
-    let Record::Seeking(place, point) = memory.records[p] else {
-        return Err(rules.wrong_moment(Kind::Turn, memory.records[p]));
+    rules.test_ask(settings, &memory.records[..settings.tasks()], p)?;
+    let start = Place { r: 0, c: 0 };
+    let next = if settings.k() == 1 {
+        State::Holding(start)
+    } else {
+        State::Seeking(start, Point::WriteX)
+    };
+    memory.records[p].state = next;
+    Ok(Answer::Asked(stand(rules, settings, next)))
+}
+
+/// Turn tests 15 and 17.
+fn turn(
+    rules: &dyn Rules,
+    settings: Settings,
+    p: usize,
+    memory: &mut Memory,
+) -> Result<Answer, Refusal> {
+    let state = memory.records[p].state;
+    let State::Seeking(place, point) = state else {
+        return Err(rules.wrong_moment(Kind::Turn, state));
     };
     let (next, access) = rules.turn(settings, p, place, point, &mut memory.registers);
-    memory.records[p] = next;
+    memory.records[p].state = next;
     Ok(Answer::Turned(stand(rules, settings, next), access))
 }
 
-/// Release tests 1 to 5, 15 and 16.
-pub fn release(
+/// Release tests 5, 15 and 16.
+fn release(
     rules: &dyn Rules,
     settings: Settings,
-    id: Identifier,
+    p: usize,
     memory: &mut Memory,
 ) -> Result<Answer, Refusal> {
-    let p = test_task(rules, settings, id, memory)?;
     if !settings.long_lived() {
         return Err(Refusal::OneTimeRelease);
     }
-    let Record::Holding(place) = memory.records[p] else {
-        return Err(rules.wrong_moment(Kind::Free, memory.records[p]));
+    let state = memory.records[p].state;
+    let State::Holding(place) = state else {
+        return Err(rules.wrong_moment(Kind::Free, state));
     };
     let access = rules.release(settings, p, place, &mut memory.registers);
-    memory.records[p] = Record::Idle;
+    memory.records[p].state = State::Idle;
     Ok(Answer::Freed(rules.name(settings, place), access))
 }
 
-/// Where a task with this record stands after its ask or turn.
-fn stand(rules: &dyn Rules, settings: Settings, record: Record) -> Stand {
-    match record {
-        Record::Holding(place) => Stand::Holds(rules.name(settings, place)),
+/// Where an ask or a turn leaves a task in this state.
+fn stand(rules: &dyn Rules, settings: Settings, state: State) -> Stand {
+    match state {
+        State::Holding(place) => Stand::Holds(rules.name(settings, place)),
         _ => Stand::Seeks,
     }
 }
@@ -201,9 +219,7 @@ fn test_task(
     memory: &Memory,
 ) -> Result<usize, Refusal> {
     let needed = test_rows(rules, settings, memory)?;
-    if let Some((row, index)) = first_out_of_range(rules, settings, &needed, memory) {
-        return Err(Refusal::OutOfRange { row, index });
-    }
+    rules.test_values(settings, &needed, memory, id)?;
     let p = id.0 as usize;
     if p >= settings.tasks() {
         return Err(Refusal::Identifier);
@@ -211,30 +227,31 @@ fn test_task(
     Ok(p)
 }
 
-/// Test 3: the first needed value out of range: records, then X, then marks block by block.
-pub fn first_out_of_range(
-    rules: &dyn Rules,
+/// Test 3, refused at the first needed value out of range: records, then X, then marks block by block.
+pub fn first_out_of_range<R: Rules + ?Sized>(
+    rules: &R,
     settings: Settings,
     needed: &Needed,
     memory: &Memory,
-) -> Option<(Row, usize)> {
+) -> Result<(), Refusal> {
+    let bad = |row, index| Err(Refusal::OutOfRange { row, index });
     for (index, record) in memory.records[..needed.records].iter().enumerate() {
-        if !record.in_range(settings) {
-            return Some((Row::Records, index));
+        if !record.state.in_range(settings) || !rules.figure_in_range(settings, *record) {
+            return bad(Row::Records, index);
         }
     }
     for (index, x) in memory.registers.x[..needed.x].iter().enumerate() {
         if *x > u32::from(settings.n) {
-            return Some((Row::X, index));
+            return bad(Row::X, index);
         }
     }
     let width = rules.marks_in_block(settings);
     for (block, marks) in memory.registers.marks[..needed.marks].chunks(width).enumerate() {
         // All the bits of the block's marks together tell quickly that none is above 1.
         if marks.iter().fold(0, |bits, mark| bits | mark) > 1 {
-            let place = marks.iter().position(|mark| *mark > 1);
-            return place.map(|place| (Row::Marks, block * width + place));
+            let place = marks.iter().take_while(|mark| **mark <= 1).count();
+            return bad(Row::Marks, block * width + place);
         }
     }
-    None
+    Ok(())
 }

@@ -138,18 +138,19 @@ pub enum Point {
     Clear(Direction),
 }
 
+/// What a task does. It is out while it seeks or holds.
 #[derive(Clone, Copy, PartialEq, Eq, Hash, Debug)]
-pub enum Record {
+pub enum State {
     Idle,
     Seeking(Place, Point),
     Holding(Place),
 }
 
-impl Record {
+impl State {
     pub fn in_range(self, settings: Settings) -> bool {
         match self {
-            Record::Idle => true,
-            Record::Seeking(place, point) => {
+            State::Idle => true,
+            State::Seeking(place, point) => {
                 settings.is_block(place)
                     && match point {
                         Point::Scan(h) if settings.long_lived() => h < settings.n,
@@ -158,7 +159,37 @@ impl Record {
                         Point::WriteX | Point::WriteMark | Point::ReadX => true,
                     }
             }
-            Record::Holding(place) => settings.is_named(place),
+            State::Holding(place) => settings.is_named(place),
+        }
+    }
+
+    /// The record of a task in this state that has taken so many turns since its ask.
+    pub const fn after(self, figure: u32) -> Record {
+        Record { state: self, figure }
+    }
+}
+
+/// A task's record: its state and, beside it, the accepted turns since its ask (02, P7).
+#[derive(Clone, Copy, PartialEq, Eq, Hash, Debug)]
+pub struct Record {
+    pub state: State,
+    pub figure: u32,
+}
+
+impl Record {
+    pub const IDLE: Record = State::Idle.after(0);
+
+    pub fn in_range(self, settings: Settings) -> bool {
+        self.state.in_range(settings) && self.figure_in_range(settings)
+    }
+
+    /// A seeking task has used fewer turns than the bound, a holding one at most as many.
+    pub fn figure_in_range(self, settings: Settings) -> bool {
+        let used = self.figure as usize;
+        match self.state {
+            State::Idle => used == 0,
+            State::Seeking(..) => used < settings.bound(),
+            State::Holding(_) => used <= settings.bound(),
         }
     }
 }
@@ -174,10 +205,10 @@ impl Out {
     pub fn of(records: &[Record]) -> Out {
         let mut out = Out::default();
         for record in records {
-            match record {
-                Record::Idle => {}
-                Record::Seeking(..) => out.seekers += 1,
-                Record::Holding(_) => out.holders += 1,
+            match record.state {
+                State::Idle => {}
+                State::Seeking(..) => out.seekers += 1,
+                State::Holding(_) => out.holders += 1,
             }
         }
         out

@@ -1,7 +1,7 @@
 //! A setup and the calls after it, with what the end line of the listing counts.
 
-use crate::calls::{self, Answer, Memory, Stand};
-use crate::grid::{Out, Record, Settings};
+use crate::calls::{self, Answer, Memory};
+use crate::grid::{Out, Settings, State};
 use crate::refusal::Refusal;
 use crate::rules::Rules;
 use crate::schedule::{Event, Kind};
@@ -11,13 +11,13 @@ pub struct History<'a> {
     rules: &'a dyn Rules,
     pub settings: Settings,
     pub memory: Memory,
-    /// For each task, the accepted turns since its last accepted ask.
+    /// For each task, the accepted turns since its last accepted ask, counted beside the records.
     pub turns: Vec<usize>,
     pub out: Out,
     /// The greatest number of tasks out after any event.
     pub peak: usize,
     /// The most accepted turns any completed acquisition used.
-    pub most: usize,
+    pub most: u32,
 }
 
 impl<'a> History<'a> {
@@ -46,24 +46,17 @@ impl<'a> History<'a> {
     fn call_and_count_turns(&mut self, event: Event) -> Result<Answer, Refusal> {
         let id = event.identifier();
         let task = usize::from(event.id);
-        let call = match event.kind {
-            Kind::Ask => calls::ask,
-            Kind::Turn => calls::turn,
-            Kind::Free => calls::release,
-        };
-        let answer = call(self.rules, self.settings, id, &mut self.memory)?;
+        let answer = calls::call(self.rules, self.settings, event.kind, id, &mut self.memory)?;
         match event.kind {
             Kind::Ask => self.turns[task] = 0,
             Kind::Turn => self.turns[task] += 1,
             Kind::Free => {}
         }
-        if let Some(Stand::Holds(_)) = answer.stand() {
-            self.most = self.most.max(self.turns[task]);
-        }
+        self.most = self.rules.most(self.most, answer, task, &self.memory.records);
         Ok(answer)
     }
 
-    pub fn record(&self, task: u16) -> Record {
-        self.memory.records[usize::from(task)]
+    pub fn state(&self, task: u16) -> State {
+        self.memory.records[usize::from(task)].state
     }
 }

@@ -17,6 +17,7 @@ pub mod generate;
 pub mod grid;
 pub mod history;
 pub mod invariants;
+pub mod light_load;
 pub mod listing;
 pub mod power;
 pub mod program;

@@ -24,7 +24,7 @@ independent fresh PROGRAM [--seconds T] [-- ARGUMENTS...]
 independent power [--seed S] [--count C]
     shows that the schedules and the calls tell each variant from the grid
 independent invariants [--seed S] [--count C]
-    tries demand 3 on the grid here
+    tries demand 3, the figures of the records and what light load costs on the grid here
 independent trace [PROGRAM] [--seed S] [--count C] [-- ARGUMENTS...]
     builds the registers again from the accesses in the listings of PROGRAM, or of the grid here
 independent cut [PROGRAM] [--seed S] [--count C] [-- ARGUMENTS...]

@@ -2,8 +2,10 @@
 //! are easily misread.
 
 use crate::access::{Access, Operation, Register};
-use crate::calls::{test_rows, Answer, Memory};
-use crate::grid::{x_of, Direction, Name, Out, Place, Point, Record, Registers, Settings};
+use crate::calls::{first_out_of_range, test_rows, Answer, Memory, Needed, Stand};
+use crate::grid::{
+    x_of, Direction, Identifier, Name, Out, Place, Point, Record, Registers, Settings, State,
+};
 use crate::refusal::Refusal;
 use crate::schedule::Kind;
 
@@ -74,47 +76,48 @@ pub trait Rules: Sync {
         settings.name(place)
     }
 
-    /// Whether the task of this record counts against k.
-    fn counts(&self, record: Record) -> bool {
-        record != Record::Idle
+    /// Whether a task in this state counts against k.
+    fn counts(&self, state: State) -> bool {
+        state != State::Idle
     }
 
-    /// Setup: tests 1 and 2, then 18 (02, P4). The records are idle already, and none is written.
+    /// Setup: tests 1 and 2, then 18 (02, P4). The records are idle already, and none is written. One
+    /// that has a figure is out of range, so other than idle.
     fn setup(&self, settings: Settings, memory: &mut Memory) -> Result<Answer, Refusal> {
         let needed = test_rows(self, settings, memory)?;
-        if memory.records[..needed.records].iter().any(|record| *record != Record::Idle) {
+        if memory.records[..needed.records].iter().any(|record| *record != Record::IDLE) {
             return Err(Refusal::BusyRow);
         }
         memory.clear_registers(&needed);
         Ok(Answer::Done)
     }
 
-    /// 02, P1: the refusal of a call that the task's record does not allow.
-    fn wrong_moment(&self, _: Kind, record: Record) -> Refusal {
-        match record {
-            Record::Idle => Refusal::TaskIdle,
-            Record::Seeking(..) => Refusal::TaskSeeking,
-            Record::Holding(_) => Refusal::TaskHolding,
+    /// 02, P1: the refusal of a call that the task's state does not allow.
+    fn wrong_moment(&self, _: Kind, state: State) -> Refusal {
+        match state {
+            State::Idle => Refusal::TaskIdle,
+            State::Seeking(..) => Refusal::TaskSeeking,
+            State::Holding(_) => Refusal::TaskHolding,
         }
     }
 
     /// Task p asks: tests 16 and 17, then 7.
     fn test_ask(&self, settings: Settings, tasks: &[Record], p: usize) -> Result<(), Refusal> {
-        self.test_idle(tasks[p])?;
+        self.test_idle(tasks[p].state)?;
         self.test_room(settings, tasks)
     }
 
     /// Tests 16 and 17 of an ask.
-    fn test_idle(&self, record: Record) -> Result<(), Refusal> {
-        match record {
-            Record::Idle => Ok(()),
-            _ => Err(self.wrong_moment(Kind::Ask, record)),
+    fn test_idle(&self, state: State) -> Result<(), Refusal> {
+        match state {
+            State::Idle => Ok(()),
+            _ => Err(self.wrong_moment(Kind::Ask, state)),
         }
     }
 
     /// Test 7: k or more tasks are out.
     fn test_room(&self, settings: Settings, tasks: &[Record]) -> Result<(), Refusal> {
-        let out = tasks.iter().filter(|record| self.counts(**record)).count();
+        let out = tasks.iter().filter(|record| self.counts(record.state)).count();
         if out < settings.k() {
             Ok(())
         } else {
@@ -128,7 +131,42 @@ pub trait Rules: Sync {
         peak.max(after.all())
     }
 
-    /// A turn of the seeking task p that stands at this place and point: the next record, and the
+    /// 02, P7: the figure of a task after its call of a kind, accepted or refused. Given is its record
+    /// with the state after the call and the figure before it.
+    fn figure(&self, _: Settings, kind: Kind, record: Record, accepted: bool) -> u32 {
+        match kind {
+            _ if !accepted => record.figure,
+            Kind::Ask | Kind::Free => 0,
+            // A figure in range is far below the largest 32-bit value.
+            Kind::Turn => record.figure + 1,
+        }
+    }
+
+    fn figure_in_range(&self, settings: Settings, record: Record) -> bool {
+        record.figure_in_range(settings)
+    }
+
+    /// 02, P7: MOST is the greatest figure of a task at the moment when it takes a name. Given are MOST
+    /// before an accepted call of task p, its answer, and the records after it.
+    fn most(&self, most: u32, answer: Answer, p: usize, tasks: &[Record]) -> u32 {
+        match answer.stand() {
+            Some(Stand::Holds(_)) => most.max(tasks[p].figure),
+            _ => most,
+        }
+    }
+
+    /// Test 3 of a call by this identifier.
+    fn test_values(
+        &self,
+        settings: Settings,
+        needed: &Needed,
+        memory: &Memory,
+        _: Identifier,
+    ) -> Result<(), Refusal> {
+        first_out_of_range(self, settings, needed, memory)
+    }
+
+    /// A turn of the seeking task p that stands at this place and point: the next state, and the
     /// access that was made.
     fn turn(
         &self,
@@ -137,7 +175,7 @@ pub trait Rules: Sync {
         place: Place,
         point: Point,
         registers: &mut Registers,
-    ) -> (Record, Access) {
+    ) -> (State, Access) {
         grid_turn(self, settings, p, place, point, registers)
     }
 
@@ -162,32 +200,32 @@ pub fn grid_turn<R: Rules + ?Sized>(
     place: Place,
     point: Point,
     registers: &mut Registers,
-) -> (Record, Access) {
+) -> (State, Access) {
     let block = settings.block(place);
     match point {
         Point::WriteX => {
             let access = Access::write_x(registers, block, x_of(p));
-            (Record::Seeking(place, Point::Scan(0)), access)
+            (State::Seeking(place, Point::Scan(0)), access)
         }
         Point::Scan(h) => {
             let access = rules.read_mark(settings, registers, block, usize::from(h));
             let next = if access.value == 1 {
                 leave(settings, place, Direction::Right)
             } else if settings.long_lived() && h + 1 < settings.n {
-                Record::Seeking(place, Point::Scan(h + 1))
+                State::Seeking(place, Point::Scan(h + 1))
             } else {
-                Record::Seeking(place, Point::WriteMark)
+                State::Seeking(place, Point::WriteMark)
             };
             (next, access)
         }
         Point::WriteMark => {
             let access = rules.write_mark(settings, registers, block, p, 1);
-            (Record::Seeking(place, Point::ReadX), access)
+            (State::Seeking(place, Point::ReadX), access)
         }
         Point::ReadX => {
             let access = Access::read_x(registers, block);
             let next = if access.value == x_of(p) {
-                Record::Holding(place)
+                State::Holding(place)
             } else {
                 leave(settings, place, Direction::Down)
             };
@@ -201,24 +239,24 @@ pub fn grid_turn<R: Rules + ?Sized>(
 }
 
 /// Leaving a block: long-lived, the mark is cleared first; one-time, the move is made at once.
-pub fn leave(settings: Settings, place: Place, direction: Direction) -> Record {
+pub fn leave(settings: Settings, place: Place, direction: Direction) -> State {
     if settings.long_lived() {
-        Record::Seeking(place, Point::Clear(direction))
+        State::Seeking(place, Point::Clear(direction))
     } else {
         moved(settings, place, direction)
     }
 }
 
 /// A move: on the edge the task holds the place in the same turn, else it stands at write X.
-pub fn moved(settings: Settings, place: Place, direction: Direction) -> Record {
+pub fn moved(settings: Settings, place: Place, direction: Direction) -> State {
     let place = match direction {
         Direction::Right => Place { r: place.r, c: place.c + 1 },
         Direction::Down => Place { r: place.r + 1, c: place.c },
     };
     if settings.is_block(place) {
-        Record::Seeking(place, Point::WriteX)
+        State::Seeking(place, Point::WriteX)
     } else {
-        Record::Holding(place)
+        State::Holding(place)
     }
 }
 

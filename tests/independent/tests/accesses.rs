@@ -9,7 +9,7 @@ use independent::cut::{cut, listing_before_p6};
 use independent::event_line;
 use independent::generate::edges::listing_of_01;
 use independent::generate::schedules;
-use independent::grid::{Direction, Place, Point, Record, Settings};
+use independent::grid::{Direction, Place, Point, Settings, State};
 use independent::history::History;
 use independent::listing::listing;
 use independent::rules::Grid;
@@ -19,11 +19,11 @@ use independent::variants::accesses;
 
 const BINARY: &str = env!("CARGO_BIN_EXE_independent");
 
-/// What the call of task 2 of 4 shows, k = 3, if its record is such. X is 1, 2, 3 and of the marks
+/// What the call of task 2 of 4 shows, k = 3, if its state is such. X is 1, 2, 3 and of the marks
 /// those at an odd index are 1.
-fn shown(mode: u8, kind: Kind, record: Record) -> String {
+fn shown(mode: u8, kind: Kind, state: State) -> String {
     let mut history = History::new(&Grid, Settings::new(mode, 4, 3)).unwrap();
-    history.memory.records[2] = record;
+    history.memory.records[2].state = state;
     history.memory.registers.x = vec![1, 2, 3];
     for (index, mark) in history.memory.registers.marks.iter_mut().enumerate() {
         *mark = (index % 2) as u8;
@@ -50,11 +50,11 @@ fn every_access_letter_for_letter() {
         (0, block_2, Point::WriteMark, "seeks W M 2 0 1"),
         (0, block_1, Point::ReadX, "holds 4 R X 1 0 2"),
     ] {
-        assert_eq!(shown(mode, Kind::Turn, Record::Seeking(place, point)), due);
+        assert_eq!(shown(mode, Kind::Turn, State::Seeking(place, point)), due);
     }
-    assert_eq!(shown(1, Kind::Free, Record::Holding(block_2)), "freed 3 W M 2 2 0");
-    assert_eq!(shown(1, Kind::Free, Record::Holding(Place { r: 1, c: 1 })), "freed 4 none");
-    assert_eq!(shown(1, Kind::Ask, Record::Idle), "seeks");
+    assert_eq!(shown(1, Kind::Free, State::Holding(block_2)), "freed 3 W M 2 2 0");
+    assert_eq!(shown(1, Kind::Free, State::Holding(Place { r: 1, c: 1 })), "freed 4 none");
+    assert_eq!(shown(1, Kind::Ask, State::Idle), "seeks");
 }
 
 #[test]

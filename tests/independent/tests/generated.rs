@@ -5,7 +5,7 @@ use std::collections::BTreeSet;
 use independent::call_cases::{self, Call};
 use independent::calls::{Answer, Needed, Stand};
 use independent::generate::{fixed_cases, random_case, worst};
-use independent::grid::{Direction, Point, Record, Settings};
+use independent::grid::{Direction, Point, Settings, State};
 use independent::listing::listing;
 use independent::refusal::{Refusal, Row};
 use independent::rules::Grid;
@@ -131,7 +131,7 @@ fn calls_have_every_refusal_every_answer_and_every_point() {
         let (Call::Turn(id), Ok(_)) = (case.call, case.answer) else {
             continue;
         };
-        if let Record::Seeking(_, point) = case.before.records[usize::from(id)] {
+        if let State::Seeking(_, point) = case.before.records[usize::from(id)].state {
             seen.insert(match (point, case.settings.mode) {
                 (Point::WriteX, 0) => "one-time write X",
                 (Point::Scan(_), 0) => "one-time scan",

@@ -1,30 +1,22 @@
 //! The refusals of the calls, in their order, and what they leave as it was.
 
-use independent::calls::{ask, release, setup, turn, Answer, Memory, Stand};
-use independent::grid::{Direction, Identifier, Place, Point, Record, Settings};
+use independent::calls::{call, setup, Answer, Memory, Stand};
+use independent::grid::{Direction, Identifier, Place, Point, Record, Settings, State};
 use independent::refusal::{Refusal, Row};
 use independent::rules::Grid;
-
-type Call = fn(Settings, u32, &mut Memory) -> Result<Answer, Refusal>;
-
-/// Ask, turn and release.
-const CALLS: [Call; 3] = [
-    |settings, id, memory| ask(&Grid, settings, Identifier(id), memory),
-    |settings, id, memory| turn(&Grid, settings, Identifier(id), memory),
-    |settings, id, memory| release(&Grid, settings, Identifier(id), memory),
-];
+use independent::schedule::Kind;
 
 /// Each call is refused so and changes nothing.
 fn all_refuse(settings: Settings, id: u32, memory: &Memory, refusal: Refusal) {
-    for call in CALLS {
+    for kind in Kind::ALL {
         let mut after = memory.clone();
-        assert_eq!(call(settings, id, &mut after), Err(refusal));
+        assert_eq!(call(&Grid, settings, kind, Identifier(id), &mut after), Err(refusal));
         assert_eq!(after, *memory);
     }
 }
 
 fn bad_record() -> Record {
-    Record::Holding(Place { r: 255, c: 255 })
+    State::Holding(Place { r: 255, c: 255 }).after(0)
 }
 
 #[test]
@@ -39,7 +31,7 @@ fn faults_one_before_another() {
     all_refuse(Settings::new(1, 3, 4), 9, &short, Refusal::Settings);
     all_refuse(settings, 9, &short, Refusal::ShortRow);
     all_refuse(settings, 9, &memory, Refusal::OutOfRange { row: Row::Records, index: 2 });
-    memory.records[2] = Record::Idle;
+    memory.records[2] = Record::IDLE;
     all_refuse(settings, 9, &memory, Refusal::OutOfRange { row: Row::X, index: 1 });
     memory.registers.x[1] = 3;
     all_refuse(settings, 9, &memory, Refusal::OutOfRange { row: Row::Marks, index: 7 });
@@ -64,9 +56,9 @@ fn each_row_may_be_short() {
 
 /// The numbers of ask, turn and release, 0 where the call is accepted; a refused one changes nothing.
 fn numbers(settings: Settings, id: u32, memory: &Memory) -> [u8; 3] {
-    CALLS.map(|call| {
+    Kind::ALL.map(|kind| {
         let mut after = memory.clone();
-        let answer = call(settings, id, &mut after);
+        let answer = call(&Grid, settings, kind, Identifier(id), &mut after);
         assert!(answer.is_ok() || after == *memory);
         answer.map_or_else(Refusal::number, |_| 0)
     })
@@ -80,22 +72,22 @@ fn moment_comes_before_count_and_after_mode() {
     for (mode, [of_idle, of_seeking, of_holding]) in [(0, [5, 5, 5]), (1, [15, 16, 0])] {
         let settings = Settings::new(mode, 3, 2);
         let mut memory = Memory::idle(&Grid, settings);
-        memory.records[0] = Record::Seeking(place, Point::WriteX);
+        memory.records[0] = State::Seeking(place, Point::WriteX).after(0);
         assert_eq!(numbers(settings, 1, &memory), [0, 15, of_idle]);
-        memory.records[1] = Record::Holding(place);
+        memory.records[1] = State::Holding(place).after(0);
         assert_eq!(numbers(settings, 0, &memory), [16, 0, of_seeking]);
         assert_eq!(numbers(settings, 1, &memory), [17, 17, of_holding]);
         assert_eq!(numbers(settings, 2, &memory), [7, 15, of_idle]);
         assert_eq!(numbers(settings, 3, &memory), [4; 3]);
-        memory.records[2] = Record::Holding(place);
+        memory.records[2] = State::Holding(place).after(0);
         assert_eq!(numbers(settings, 2, &memory), [17, 17, of_holding]);
     }
 }
 
 #[test]
 fn ranges_of_records() {
-    let seeking = |r, c, point| Record::Seeking(Place { r, c }, point);
-    let holding = |r, c| Record::Holding(Place { r, c });
+    let seeking = |r, c, point| State::Seeking(Place { r, c }, point).after(0);
+    let holding = |r, c| State::Holding(Place { r, c }).after(0);
     let once = Settings::new(0, 4, 3);
     let long = Settings::new(1, 4, 3);
     for settings in [once, long] {
@@ -119,16 +111,25 @@ fn ranges_of_records() {
 fn surplus_is_neither_tested_nor_counted_nor_changed() {
     let settings = Settings::new(1, 2, 2);
     let mut memory = Memory::idle(&Grid, settings);
-    memory.records.extend([bad_record(), Record::Holding(Place { r: 0, c: 0 })]);
+    memory.records.extend([bad_record(), State::Holding(Place { r: 0, c: 0 }).after(0)]);
     memory.registers.x.push(999);
     memory.registers.marks.push(7);
     let surplus = memory.clone();
-    assert_eq!(ask(&Grid, settings, Identifier(0), &mut memory), Ok(Answer::Asked(Stand::Seeks)));
-    assert_eq!(ask(&Grid, settings, Identifier(1), &mut memory), Ok(Answer::Asked(Stand::Seeks)));
-    assert!(turn(&Grid, settings, Identifier(1), &mut memory).is_ok());
+    assert_eq!(
+        call(&Grid, settings, Kind::Ask, Identifier(0), &mut memory),
+        Ok(Answer::Asked(Stand::Seeks))
+    );
+    assert_eq!(
+        call(&Grid, settings, Kind::Ask, Identifier(1), &mut memory),
+        Ok(Answer::Asked(Stand::Seeks))
+    );
+    assert!(call(&Grid, settings, Kind::Turn, Identifier(1), &mut memory).is_ok());
     assert_eq!(memory.registers.x, [2, 999]);
-    assert_eq!(ask(&Grid, settings, Identifier(2), &mut memory), Err(Refusal::Identifier));
-    memory.records[..2].fill(Record::Idle);
+    assert_eq!(
+        call(&Grid, settings, Kind::Ask, Identifier(2), &mut memory),
+        Err(Refusal::Identifier)
+    );
+    memory.records[..2].fill(Record::IDLE);
     assert_eq!(setup(&Grid, settings, &mut memory), Ok(Answer::Done));
     assert_eq!(memory, surplus);
 }
@@ -147,10 +148,11 @@ fn setup_declines_a_busy_row() {
         assert_eq!(after, *memory);
     };
     for (at, record) in [
-        (0, Record::Seeking(place, Point::WriteX)),
-        (1, Record::Holding(place)),
+        (0, State::Seeking(place, Point::WriteX).after(0)),
+        (1, State::Holding(place).after(0)),
         (2, bad_record()),
-        (2, Record::Seeking(place, Point::Scan(3))),
+        (2, State::Seeking(place, Point::Scan(3)).after(0)),
+        (1, State::Idle.after(1)),
     ] {
         let mut busy = memory.clone();
         busy.records[at] = record;
@@ -159,7 +161,7 @@ fn setup_declines_a_busy_row() {
         busy.registers.marks.pop();
         refused(settings, &busy, Refusal::ShortRow);
     }
-    memory.records.extend([bad_record(), Record::Holding(place)]);
+    memory.records.extend([bad_record(), State::Holding(place).after(0)]);
     let records = memory.records.clone();
     assert_eq!(setup(&Grid, settings, &mut memory), Ok(Answer::Done));
     assert_eq!(memory.records, records);
@@ -171,13 +173,13 @@ fn states_that_no_history_reaches_follow_the_rules() {
     let settings = Settings::new(1, 2, 2);
     let place = Place { r: 0, c: 0 };
     let mut memory = Memory::idle(&Grid, settings);
-    memory.records = vec![Record::Seeking(place, Point::Scan(0)); 2];
+    memory.records = vec![State::Seeking(place, Point::Scan(0)).after(0); 2];
     memory.registers.marks = vec![1, 0];
-    assert!(turn(&Grid, settings, Identifier(0), &mut memory).is_ok());
-    let going_right = Record::Seeking(place, Point::Clear(Direction::Right));
-    assert_eq!(memory.records[0], going_right);
-    memory.records = vec![Record::Holding(place); 2];
-    assert!(release(&Grid, settings, Identifier(1), &mut memory).is_ok());
+    assert!(call(&Grid, settings, Kind::Turn, Identifier(0), &mut memory).is_ok());
+    let going_right = State::Seeking(place, Point::Clear(Direction::Right));
+    assert_eq!(memory.records[0], going_right.after(1));
+    memory.records = vec![State::Holding(place).after(3); 2];
+    assert!(call(&Grid, settings, Kind::Free, Identifier(1), &mut memory).is_ok());
     assert_eq!(memory.registers.marks, [1, 0]);
-    assert_eq!(memory.records, [Record::Holding(place), Record::Idle]);
+    assert_eq!(memory.records, [State::Holding(place).after(3), Record::IDLE]);
 }

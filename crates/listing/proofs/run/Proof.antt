@@ -6,8 +6,8 @@ use borrow.Author.Needs.{needs}
 use lib.ListN.{length}
 use denote.Ref.{now}
 use Rattle.machine.specs.Lent.{lent}
-use Rattle.listing.proofs.Opened.{tasks-few, events-few}
-use Rattle.listing.proofs.Running.{Stands, begins, advances, ends, stands-room, stands-turns}
+use Rattle.listing.proofs.Opened.{tasks-few}
+use Rattle.listing.proofs.Running.{Stands, begins, advances, ends, stands-room}
 use Rattle.listing.proofs.run.Statement.{statement}
 use Rattle.listing.proofs.run.Tie as tie
 
@@ -17,7 +17,7 @@ Inv-loop file s count room₀ xs₀ marks₀ standing₀ i₀ room xs marks stan
     × (length room ≡ length room₀)
     × (length xs ≡ length xs₀)
     × (length marks ≡ length marks₀)
-    × ((first : List ℕ) → 45 + 56 * count ≤ length first
+    × ((first : List ℕ) → 50 + 56 * count ≤ length first
     → Stands s file 0 standing₀ (lent (standing₀ .records) xs₀ marks₀) first room₀
     → Stands s file i standing (lent (standing .records) xs marks) first room)
 
@@ -51,11 +51,7 @@ advance-requires c κs =
     let at = c .before .before .before .before .before in
     let a = start at .args in
     let pre = start at .pre in
-    let few = events-few (now (a .file)) (a .s) (a .count) (pre .0) in (
-      tasks-few (now (a .file)) (a .s) (a .count) (pre .0),
-      λ p. stands-turns (here at) p (omega arith),
-      stands-room (here at) 56 (search needs),
-    )
+    (tasks-few (now (a .file)) (a .s) (a .count) (pre .0), stands-room (here at) 56 (search needs))
 
 add-i : tie.Need-add-i Inv-loop μ-loop
 add-i c =
@@ -84,7 +80,7 @@ among-requires c κs =
     tasks-few (now (at .args .file)) (at .args .s) (at .args .count) (at .pre .0)
 
 put-end-requires : tie.Need-put-end-requires Inv-loop μ-loop
-put-end-requires c κs = stands-room (here (c .before .before .before .before)) 22 (search needs)
+put-end-requires c κs = stands-room (here (c .before .before .before .before)) 27 (search needs)
 
 returns : tie.Need-returns Inv-loop μ-loop
 returns c =

@@ -1,24 +1,29 @@
 -- Histories: what holds after setup and is kept by every call, accepted or refused, holds after every list of calls.
-use mathlib.Core.{Path.{_≡_, refl, ap}, Bool.{true≢false, false}, List.{List, [], _∷_, _++_}}
+use mathlib.Core.{Path.{_≡_, refl, sym, ap, subst}, Bool.{true≢false, false}, List.{List, [], _∷_, _++_}}
 use Prim.Native.Nat.{ℕ, suc, _+_, _≤_, _<_, zero-le}
 use native.Mathlib.{Nat.{le-trans, not-suc-le-zero}, Decide.ℕ-discrete, Omega.arith}
 use lib.Dec.{T}
 use borrow.Author.Tests.{leb-false}
-use Rattle.machine.specs.{Settings.width, Records.isOut, Memory.{Memory, marksNeeded, stateOf, outOf, fill}}
+use Rattle.machine.specs.{Settings.width, Records.isOut}
+use Rattle.machine.specs.Memory.{Memory, marksNeeded, stateOf, turnsIn, outOf, fill}
 use Rattle.machine.specs.{Refusals.wrongMoment, Calls.{Outcome, refuseOr, verdictOf, call, accept, setup}}
 use Rattle.machine.specs.History.{run, Answered, history}
 use Rattle.machine.specs.promises.{Demands.{SetUp, memoryAfter}, Ranges.WithinLimits}
 use Rattle.machine.specs.declared.{Settings.Settings, State.{State, the-variants.{Idle, Seeking, Holding}}}
+use Rattle.machine.specs.declared.Record.{Record}
 use Rattle.machine.specs.declared.{Kind.{Kind, the-variants.{Ask, Turn, Release}}, Event.Event, Verdict.Verdict}
 use Rattle.counting.specs.Counting.{count}
 use Rattle.counting.proofs.{Bools.is-false, Searching.count-none, Counting.{count-most, count-but-one}}
 use Rattle.machine.proofs.calls.Fresh.{fill-at, setup-within, setup-memory, fresh-idle, fresh-none-out}
 use Rattle.machine.proofs.calls.Fresh.{fresh-fit}
 use Rattle.machine.proofs.calls.{Outcomes.{Called, taken, refused, called}, Fitting.accept-fits}
-use Rattle.machine.proofs.bridge.AsGrid.{rulesOf, standOf, gridOf, all-unmarked}
+use Rattle.machine.proofs.bridge.AsGrid.{standOf, gridOf, all-unmarked}
+use Rattle.machine.proofs.bridge.Spending.{SpentAt, spent-after, turns-stay}
+use Rattle.machine.proofs.bridge.Steps.{caller-record, others-record}
+pub use Rattle.machine.proofs.bridge.Spending.{rules}
 use Rattle.machine.proofs.bridge.Steps.{in-place, others-after, accepted-step}
 use Rattle.machine.proofs.refusals.{Passed.{Fit, May}, Passing.passed, Refusing.{ruled, ruled-accepted}}
-use Rattle.grid.proofs.{Cover.{beyond, beyond-out}, Stands.{Rules, idle, Grid, Marks, HoldsAt, columnReach}}
+use Rattle.grid.proofs.{Cover.{beyond, beyond-out}, Stands.{idle, Grid, Marks, HoldsAt, columnReach}}
 use Rattle.grid.proofs.{Covered.reachOf, Invariant.{AllInPlace, Invariant, invariant-kept}}
 
 -- ---- lists of calls
@@ -51,15 +56,13 @@ asked Release = 0
 -- ---- the invariants of a history
 
 module _ (s : Settings) (fair : WithinLimits s) where
-  abbrev pub rules : Rules
-  rules = rulesOf s fair
-
   -- J0 to J3, where at most m are out at once
   pub record Invariants (m : ℕ) (memory : Memory) : Type 0 where
     pub fit : Fit s memory
-    pub invariant : Invariant rules m (gridOf s memory)
+    pub spent : (q : ℕ) → q < s .n → SpentAt s fair (stateOf memory q) (turnsIn memory q)
+    pub invariant : Invariant (rules s fair) m (gridOf s memory)
 
-  pub all-in-place : (memory : Memory) → Fit s memory → AllInPlace rules (gridOf s memory)
+  pub all-in-place : (memory : Memory) → Fit s memory → AllInPlace (rules s fair) (gridOf s memory)
   all-in-place memory h q l = in-place s fair (stateOf memory q) (h .in-range .records q l)
 
   -- who reaches anywhere is out
@@ -73,6 +76,10 @@ module _ (s : Settings) (fair : WithinLimits s) where
       count-most (beyond (reachOf (gridOf s memory)) 0 0) (λ q. isOut (stateOf memory q)) (s .n)
       (λ q _ t. reaches-out (stateOf memory q) (beyond-out (reachOf (gridOf s memory)) 0 0 q t .1))
 
+  -- what is so of one task's record
+  abbrev SpentIn : Memory → ℕ → Type 0
+  SpentIn memory q = SpentAt s fair (stateOf memory q) (turnsIn memory q)
+
   -- a call keeps them, as long as no more than m are out
   pub invariants-kept : (m : ℕ) (event : Event) (memory : Memory) → Invariants m memory
       → outOf s (call s event memory .memory .records) ≤ m
@@ -83,8 +90,21 @@ module _ (s : Settings) (fair : WithinLimits s) where
           → Invariants m (outcome .memory)
       go outcome (refused why) few = g
       go outcome (taken o) few = record {
-        fit = accept-fits s fair (event .kind) (event .task .0) memory (g .fit) (o .known) (o .moment);
-        invariant = invariant-kept rules m (gridOf s memory) (gridOf s (ruled s event memory .memory))
+        fit = accept-fits s fair (event .kind) (event .task .0) memory (g .fit) (o .known) (o .moment)
+            (turns-stay s fair memory (g .fit) (event .task .0) (o .known) (event .kind) (o .moment)
+            (g .spent (event .task .0) (o .known)));
+        spent = λ q l. elim (ℕ-discrete q (event .task .0)) [
+          | yes its ↦ subst (λ (p : ℕ). SpentIn (ruled s event memory .memory) p) (sym its)
+              (subst (λ (r : Record). SpentAt s fair (r .state) (r .turns))
+              (sym (caller-record s fair memory (g .fit) (event .task .0) (o .known) (event .kind)
+              (stateOf memory (event .task .0))))
+              (spent-after s fair memory (g .fit) (event .task .0) (o .known) (event .kind) (o .moment)
+              (g .spent (event .task .0) (o .known))))
+          | no other ↦ subst (λ (r : Record). SpentAt s fair (r .state) (r .turns))
+              (sym (others-record s fair memory (g .fit) (event .task .0) (o .known) (event .kind)
+              (stateOf memory (event .task .0)) q other)) (g .spent q l)
+        ];
+        invariant = invariant-kept (rules s fair) m (gridOf s memory) (gridOf s (ruled s event memory .memory))
             (accepted-step s fair memory (g .fit) (event .task .0) (o .known) (event .kind) (o .lived) (o .moment))
             (all-in-place memory (g .fit)) (le-trans (cover-out (ruled s event memory .memory)) few) (g .invariant);
       }
@@ -203,6 +223,7 @@ module _ (s : Settings) (lent : Memory) (ok : SetUp s lent) where
   pub fresh-invariants : (m : ℕ) → Invariants s (setup-within s lent ok) m (setup s lent .memory)
   fresh-invariants m = record {
     fit = fresh-fit s lent ok;
+    spent = λ q l. rw (fresh-idle s lent ok q l) tt;
     invariant = idle-invariant s (setup-within s lent ok) m (gridOf s (setup s lent .memory))
         (λ q l. ap (standOf (width s)) (fresh-idle s lent ok q l)) fresh-unmarked;
   }

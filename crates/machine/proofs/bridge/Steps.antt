@@ -5,9 +5,9 @@ use native.Mathlib.{Nat.le-trans, Decide.{decLe, ℕ-discrete}, Omega.arith}
 use lib.{Dec.{T, leb, leb→le, ltb→lt, eqb→eq}, ListN.{getD, set}, Seq.{getD-set-same, getD-set-other}}
 use borrow.Author.Tests.{eqb-false}
 use Rattle.machine.specs.{Settings.{width, own}, Places.blockNumber, Records.{idle, pointInRange, stateInRange}}
-use Rattle.machine.specs.Memory.{Memory, markIndex, stateOf, withRecord}
+use Rattle.machine.specs.Memory.{Memory, markIndex, recordOf, stateOf, withRecord}
 use Rattle.machine.specs.Turn.{access, store, arrive, move, leave, pointTurned}
-use Rattle.machine.specs.{Refusals.{oneTimeRelease, wrongMoment}, Calls.{nextState, accept}}
+use Rattle.machine.specs.{Refusals.{oneTimeRelease, wrongMoment}, Calls.{nextState, recordAfter, accept}}
 use Rattle.machine.specs.declared.{Settings.Settings, Direction.{Direction, the-variants.{Right, Down}}}
 use Rattle.machine.specs.declared.Point.{Point, the-variants.{WriteX, Scan, WriteMark, ReadX, Clear}}
 use Rattle.machine.specs.declared.{State.{State, the-variants.{Idle, Seeking, Holding}}, Record.Record}
@@ -206,19 +206,27 @@ module _ (s : Settings) (l : WithinLimits s) (m : Memory) (h : Fit s m) (p : ℕ
 
   -- ---- the step
 
+  pub caller-record : (kind : Kind) (state : State)
+      → recordOf (accept s kind p state m .memory) p ≡ recordAfter s kind p state m
+  caller-record kind state =
+      let new = recordAfter s kind p state m in
+      ap (λ (records : List Record). getD records p idle) (records-after s (access s kind p state) m p new)
+      ∙ getD-set-same (m .records) p new idle (le-trans below (h .long .records))
+
+  pub others-record : (kind : Kind) (state : State) (q : ℕ) → (q ≡ p → ⊥)
+      → recordOf (accept s kind p state m .memory) q ≡ recordOf m q
+  others-record kind state q d =
+      let new = recordAfter s kind p state m in
+      ap (λ (records : List Record). getD records q idle) (records-after s (access s kind p state) m p new)
+      ∙ getD-set-other (m .records) p q new idle d
+
   pub caller-after : (kind : Kind) (state : State)
       → stateOf (accept s kind p state m .memory) p ≡ nextState s kind p state m
-  caller-after kind state =
-      let new : Record = record { state = nextState s kind p state m } in
-      ap (λ (records : List Record). getD records p idle .state) (records-after s (access s kind p state) m p new)
-      ∙ ap (λ (a : Record). a .state) (getD-set-same (m .records) p new idle (le-trans below (h .long .records)))
+  caller-after kind state = ap (λ (a : Record). a .state) (caller-record kind state)
 
   pub others-after : (kind : Kind) (state : State) (q : ℕ) → (q ≡ p → ⊥)
       → stateOf (accept s kind p state m .memory) q ≡ stateOf m q
-  others-after kind state q d =
-      let new : Record = record { state = nextState s kind p state m } in
-      ap (λ (records : List Record). getD records q idle .state) (records-after s (access s kind p state) m p new)
-      ∙ ap (λ (a : Record). a .state) (getD-set-other (m .records) p q new idle d)
+  others-after kind state q d = ap (λ (a : Record). a .state) (others-record kind state q d)
 
   -- how its task moves
   pub caller-moves : (kind : Kind) → oneTimeRelease s kind ≡ false → wrongMoment kind (stateOf m p) ≡ false

@@ -5,8 +5,8 @@ use Prim.Native.Nat.{ℕ}
 use native.Mathlib.Omega.{arith}
 use lib.{Dec.T, ListN.{set, length-set}, Seq.{getD-set-same, getD-set-other}}
 use Rattle.machine.specs.{Records.idle, Memory.{Memory, markIndex, recordOf, stateOf, withRecord, content, put}}
-use Rattle.machine.specs.Turn.{access, value, store, shownBy, next}
-use Rattle.machine.specs.Calls.{Outcome, toldOf, nextState, shownOf, call}
+use Rattle.machine.specs.Turn.{access, value, store, shownBy, next, turnsAfter}
+use Rattle.machine.specs.Calls.{Outcome, toldOf, nextState, recordAfter, shownOf, call}
 use Rattle.machine.specs.declared.{Settings.Settings, State.State, Record.Record}
 use Rattle.machine.specs.declared.{Register.{Register, the-variants.{X, Mark}}, Op.the-variants.{Read, Write}}
 use Rattle.machine.specs.declared.Access.{Access, the-variants.{NoAccess, Touch}}
@@ -85,7 +85,7 @@ module _ (s : Settings) (m : Memory) where
 module _ (s : Settings) (event : Event) (m : Memory) (h : Passed s event m) where
   -- the record that the call puts in place
   abbrev nextOf : Record
-  nextOf = record { state = nextState s (event .kind) (event .task .0) (stateOf m (event .task .0)) m }
+  nextOf = recordAfter s (event .kind) (event .task .0) (stateOf m (event .task .0)) m
 
   next-in-place : recordOf (ruled s event m .memory) (event .task .0) ≡ nextOf
   next-in-place =
@@ -101,7 +101,7 @@ module _ (s : Settings) (event : Event) (m : Memory) (h : Passed s event m) wher
     written = stands-with s m (accessOf s event m) _ _ _
         (stands s m (accessOf s event m) (h .fit) (call-needed s event m h));
     records = rw (store-records s m (accessOf s event m)) (set-row (m .records) (event .task .0) nextOf);
-    own = ap (λ (r : Record). r .state) next-in-place;
+    own = next-in-place;
   }
 
 pub only-the-register-written-changes : OnlyTheRegisterWrittenChanges
@@ -156,7 +156,7 @@ same-end s event m m′ t t′ e same =
       next-record =
           ap (λ (o : Outcome). recordOf (o .memory) p) rules
           ∙ put
-          ∙ (λ i. record { state = after i })
+          ∙ (λ i. record { state = after i; turns = turnsAfter (event .kind) (before i) (e i .turns) })
           ∙ sym put′
           ∙ sym (ap (λ (o : Outcome). recordOf (o .memory) p) rules′);
     }
@@ -188,7 +188,7 @@ module _ (s : Settings) (event : Event) (m : Memory) (t : AcceptedIn s event m) 
   bearing m′ t′ e same = same-end s event m m′ t t′ e same
 
   ended-stored : ended ≡ withRecord (event .task .0)
-      (record { state = nextState s (event .kind) (event .task .0) (stateOf m (event .task .0)) m })
+      (recordAfter s (event .kind) (event .task .0) (stateOf m (event .task .0)) m)
       (store s (accessOf s event m) m)
   ended-stored = ap (λ (o : Outcome). o .memory) (by-the-rules s event m t)
 

@@ -1,16 +1,16 @@
 -- J0: after every call of a history the rows are long enough and every needed value is in range, so tests 1 to 3 pass
 -- for good. Every accepted call could break it, and none does: it writes one register and one record, each with a value
--- in range.
+-- in range. Of the turns in that record a call by itself does not say so; a history does (`bridge/Spending`).
 use mathlib.Core.{Path.{_≡_, refl, subst}, Bool.{Bool, false}, List.{List, [], _∷_}}
 use Prim.Native.Nat.{ℕ, zero, suc, _+_, _≤_, _<_}
 use native.Mathlib.{Decide.{decLe, ℕ-discrete}, Omega.arith}
 use lib.{Dec.{T, leb, leb→le, ltb→lt, le→leb, lt→ltb, lit≤}, ListN.{getD, set, length-set}}
 use borrow.Author.Tests.{eq-eqb}
-use Rattle.machine.specs.{Settings.width, Records.{idle, pointInRange, stateInRange, recordInRange}}
-use Rattle.machine.specs.Memory.{Memory, markIndex, stateOf, withRecord, withX, withMark, put}
+use Rattle.machine.specs.{Settings.width, Records.{idle, pointInRange, stateInRange, turnsInRange}}
+use Rattle.machine.specs.Memory.{Memory, markIndex, stateOf, turnsIn, withRecord, withX, withMark, put}
 use Rattle.machine.specs.Memory.{xInRange, markInRange}
-use Rattle.machine.specs.Turn.{access, pointAccess, value, store, arrive, move, leave, pointTurned}
-use Rattle.machine.specs.{Refusals.wrongMoment, Calls.{nextState, accept}}
+use Rattle.machine.specs.Turn.{access, pointAccess, value, store, arrive, move, leave, pointTurned, turnsAfter}
+use Rattle.machine.specs.{Refusals.wrongMoment, Calls.{nextState, recordAfter, accept}}
 use Rattle.machine.specs.declared.{Settings.Settings, Direction.{Direction, the-variants.{Right, Down}}}
 use Rattle.machine.specs.declared.Point.{Point, the-variants.{WriteX, Scan, WriteMark, ReadX, Clear}}
 use Rattle.machine.specs.declared.{State.{State, the-variants.{Idle, Seeking, Holding}}, Record.Record}
@@ -115,15 +115,19 @@ set-good good (x ∷ l) (suc i) zero v d t h = h
 set-good good (x ∷ l) (suc i) (suc j) v d t h = set-good good l i j v d t h
 
 module _ (s : Settings) (m : Memory) (h : Fit s m) where
-  record-fits : (p : ℕ) (new : Record) → T (recordInRange s new) → Fit s (withRecord p new m)
-  record-fits p new t = record {
+  record-fits : (p : ℕ) (new : Record) → T (stateInRange s (new .state)) → T (turnsInRange s (new .state) (new .turns))
+      → Fit s (withRecord p new m)
+  record-fits p new t u = record {
     long = record {
       records = rw (length-set (m .records) p new) (h .long .records);
       xs = h .long .xs;
       marks = h .long .marks;
     };
     in-range = record {
-      records = λ q l. set-good (recordInRange s) (m .records) p q new idle t (h .in-range .records q l);
+      records = λ q l. set-good (λ (r : Record). stateInRange s (r .state)) (m .records) p q new idle t
+          (h .in-range .records q l);
+      turns = λ q l. set-good (λ (r : Record). turnsInRange s (r .state) (r .turns)) (m .records) p q new idle u
+          (h .in-range .turns q l);
       xs = h .in-range .xs;
       marks = h .in-range .marks;
     };
@@ -138,6 +142,7 @@ module _ (s : Settings) (m : Memory) (h : Fit s m) where
     };
     in-range = record {
       records = h .in-range .records;
+      turns = h .in-range .turns;
       xs = λ i l. set-good (xInRange s) (m .xs) b i v 0 t (h .in-range .xs i l);
       marks = h .in-range .marks;
     };
@@ -152,6 +157,7 @@ module _ (s : Settings) (m : Memory) (h : Fit s m) where
     };
     in-range = record {
       records = h .in-range .records;
+      turns = h .in-range .turns;
       xs = h .in-range .xs;
       marks = λ i l. set-good markInRange (m .marks) index i v 0 t (h .in-range .marks i l);
     };
@@ -168,9 +174,10 @@ module _ (s : Settings) (m : Memory) (h : Fit s m) where
 
 pub accept-fits : (s : Settings) → WithinLimits s → (kind : Kind) (p : ℕ) (m : Memory) → Fit s m → p < s .n
     → wrongMoment kind (stateOf m p) ≡ false
+    → T (turnsInRange s (nextState s kind p (stateOf m p) m) (turnsAfter kind (stateOf m p) (turnsIn m p)))
     → Fit s (accept s kind p (stateOf m p) m .memory)
-accept-fits s fair kind p m h l e =
+accept-fits s fair kind p m h l e few =
     record-fits s (store s (access s kind p (stateOf m p)) m)
     (store-fits s m h (access s kind p (stateOf m p)) (access-writes s fair kind p (stateOf m p) l))
-    p (record { state = nextState s kind p (stateOf m p) m })
-    (next-in-range s fair kind p (stateOf m p) m e (h .in-range .records p l))
+    p (recordAfter s kind p (stateOf m p) m)
+    (next-in-range s fair kind p (stateOf m p) m e (h .in-range .records p l)) few

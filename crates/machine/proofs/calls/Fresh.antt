@@ -1,17 +1,18 @@
 -- What an accepted setup leaves: a memory that passes the tests 1 to 3, with every task idle.
-use mathlib.Core.{Path.{_≡_, refl, ap, _∙_}, List.List}
+use mathlib.Core.{Path.{_≡_, refl, sym, ap, subst, _∙_}, List.List}
 use Prim.Native.Nat.{ℕ, _≤_, _<_, zero-le}
 use native.Mathlib.Omega.{arith}
-use lib.Dec.{le→leb}
+use lib.Dec.{T, le→leb}
 use lib.ListN.{length, getD, replicate, drop, length-append, length-replicate, getD-replicate, List·getD-append}
-use Rattle.machine.specs.{Places.blocks, Records.isOut}
-use Rattle.machine.specs.Memory.{Memory, marksNeeded, stateOf, outOf, viewOf, fill}
+use Rattle.machine.specs.{Places.blocks, Records.{idle, isOut, turnsInRange}}
+use Rattle.machine.specs.Memory.{Memory, marksNeeded, recordOf, stateOf, turnsIn, outOf, viewOf, fill}
 use Rattle.machine.specs.{Refusals.setupVerdict, Answers.{said, plain}, Calls.{refuseOr, cleared, setup}}
 use Rattle.machine.specs.promises.{Demands.SetUp, Ranges.WithinLimits, Refusing.{NoneHolds, setupLines}}
-use Rattle.machine.specs.declared.{Settings.Settings, State.the-variants.Idle, Verdict.Verdict, Told.Told}
-use Rattle.machine.specs.declared.Answer.{Answer}
+use Rattle.machine.specs.declared.{Settings.Settings, State.the-variants.Idle, Record.Record, Verdict.Verdict}
+use Rattle.machine.specs.declared.{Told.Told, Answer.Answer}
 use Rattle.counting.proofs.{Tested.{misses, cannot-fail}, Searching.count-none}
-use Rattle.machine.proofs.refusals.{Lines.{short-line, idle-tested}, Refusing.{within, started, setup-exactly}}
+use Rattle.machine.proofs.refusals.Lines.{short-line, idle-record-tested}
+use Rattle.machine.proofs.refusals.Refusing.{within, started, setup-exactly}
 use Rattle.machine.proofs.refusals.Passed.{Long, Fit, none-short-long}
 
 -- ---- rows that were filled
@@ -39,8 +40,12 @@ module _ (s : Settings) (lent : Memory) (ok : SetUp s lent) where
       none-short-long s (length (lent .records)) lent (misses (short-line s setup-within lent) (met-none .1 .0))
 
   -- the records were idle before
+  pub lent-fresh : (p : ℕ) → p < s .n → recordOf lent p ≡ idle
+  lent-fresh p l =
+      cannot-fail (idle-record-tested (stateOf lent p) (turnsIn lent p)) (λ other. met-none .1 .1 .0 (p, l, other))
+
   pub lent-idle : (p : ℕ) → p < s .n → stateOf lent p ≡ Idle
-  lent-idle p l = cannot-fail (idle-tested (stateOf lent p)) (λ other. met-none .1 .1 .0 (p, l, other))
+  lent-idle p l = ap (λ (r : Record). r .state) (lent-fresh p l)
 
   pub setup-memory : setup s lent .memory ≡ cleared s lent
   setup-memory = go (setupVerdict s (viewOf s (lent .records) 0) lent) ok
@@ -61,6 +66,7 @@ module _ (s : Settings) (lent : Memory) (ok : SetUp s lent) where
     };
     in-range = record {
       records = λ p l. rw (lent-idle p l) tt;
+      turns = λ p l. subst (λ (r : Record). T (turnsInRange s (r .state) (r .turns))) (sym (lent-fresh p l)) tt;
       xs = λ block l. rw (fill-at (blocks s) block 0 0 (lent .xs) l) (le→leb 0 (s .n) zero-le);
       marks = λ index l. rw (fill-at (marksNeeded s) index 0 0 (lent .marks) l) tt;
     };

@@ -17,7 +17,7 @@ use Rattle.machine.specs.declared.Shown.{Shown, the-variants.Nothing}
 use Rattle.machine.specs.Refusals.{wrongMoment}
 use Rattle.machine.specs.promises.OneAccess.{AcceptedIn}
 use Rattle.machine.specs.promises.Rules.{standsAt, freesAt, SeeksAt, xOf, markOf, longMark, oneMark, readX}
-use Rattle.machine.specs.promises.Rules.{readMark, wroteMark, Arrives}
+use Rattle.machine.specs.promises.Rules.{oneMore, readMark, wroteMark, Arrives}
 use Rattle.machine.specs.promises.Rules.{edge, block, Moves, Says, asks, write-x, long-scan-marked}
 use Rattle.machine.specs.promises.Rules.{long-scan-next, long-scan-last, once-scan-marked, once-scan-clear}
 use Rattle.machine.specs.promises.Rules.{long-write-mark, once-write-mark, read-x-own, long-read-x-other}
@@ -35,16 +35,17 @@ use Rattle.machine.proofs.bridge.Turning as turning
 
 module _ (s : Settings) (p : ℕ) where
   -- a line of an arrival says where the task comes to
-  arrives-so : (r c : ℕ) (shown : Shown) (m : Memory) (to : Outcome) → Arrives s p r c shown m to
-      → standsAt s p (arrive s r c) shown m ≡ to
-  arrives-so r c shown m to (edge at) = ap (λ (state : State). standsAt s p state shown m) (sym (arrive-edge s r c at))
-  arrives-so r c shown m to (block on) = ap (λ (state : State). standsAt s p state shown m)
-      (sym (arrive-block s r c (λ at. omega arith)))
+  arrives-so : (r c turns : ℕ) (shown : Shown) (m : Memory) (to : Outcome) → Arrives s p r c turns shown m to
+      → standsAt s p (arrive s r c) turns shown m ≡ to
+  arrives-so r c turns shown m to (edge at) =
+      ap (λ (state : State). standsAt s p state turns shown m) (sym (arrive-edge s r c at))
+  arrives-so r c turns shown m to (block on) =
+      ap (λ (state : State). standsAt s p state turns shown m) (sym (arrive-block s r c (λ at. omega arith)))
 
-  moves-so : (r c : ℕ) (direction : Direction) (shown : Shown) (m : Memory) (to : Outcome)
-      → Moves s p r c direction shown m to → standsAt s p (move s r c direction) shown m ≡ to
-  moves-so r c Right shown m to moves = arrives-so r (c + 1) shown m to moves
-  moves-so r c Down shown m to moves = arrives-so (r + 1) c shown m to moves
+  moves-so : (r c : ℕ) (direction : Direction) (turns : ℕ) (shown : Shown) (m : Memory) (to : Outcome)
+      → Moves s p r c direction turns shown m to → standsAt s p (move s r c direction) turns shown m ≡ to
+  moves-so r c Right turns shown m to moves = arrives-so r (c + 1) turns shown m to moves
+  moves-so r c Down turns shown m to moves = arrives-so (r + 1) c turns shown m to moves
 
   -- what the access at a point shows
   abbrev pointShown : ℕ → ℕ → Point → Memory → Shown
@@ -53,7 +54,7 @@ module _ (s : Settings) (p : ℕ) where
   -- a turn at a point: the register is written, and the value read makes the next state
   turned-at : (m : Memory) (r c : ℕ) (point : Point) → AcceptedIn s (turn p) m → SeeksAt s p m r c point
       → call s (turn p) m ≡ standsAt s p (pointTurned s p r c point (value s (pointAccess s p r c point) m))
-      (pointShown r c point m) (store s (pointAccess s p r c point) m)
+      (oneMore m p) (pointShown r c point m) (store s (pointAccess s p r c point) m)
   turned-at m r c point t at = by-the-rules s (turn p) m t
       ∙ ap (λ (state : State). accept s Turn p state m) (at .stands)
 
@@ -62,10 +63,10 @@ module _ (s : Settings) (p : ℕ) where
       → SeeksAt s p m r c point
       → to ≡ pointTurned s p r c point (value s (pointAccess s p r c point) m)
       → pointShown r c point m ≡ shown
-      → call s (turn p) m ≡ standsAt s p to shown (store s (pointAccess s p r c point) m)
+      → call s (turn p) m ≡ standsAt s p to (oneMore m p) shown (store s (pointAccess s p r c point) m)
   turned-to m r c point to shown t at e shows =
       turned-at m r c point t at
-      ∙ (λ i. standsAt s p (sym e i) (shows i) (store s (pointAccess s p r c point) m))
+      ∙ (λ i. standsAt s p (sym e i) (oneMore m p) (shows i) (store s (pointAccess s p r c point) m))
 
 -- ---- mode 1
 
@@ -84,11 +85,11 @@ module _ (s : Settings) (long : s .mode ≡ 1) (p : ℕ) (m : Memory) (r c : ℕ
   mark-shown h v e = ap (readMark s r c h) (mark-read h v e)
 
   -- the own mark, written: what the line says is shown and left
-  own-written-long : (v : ℕ) (to : State)
-      → standsAt s p to (wroteMark s r c (own s p) v) (withMark (markIndex s (blockNumber s r c) (own s p)) v m)
-      ≡ standsAt s p to (wroteMark s r c p v) (withMark (markOf s r c p) v m)
-  own-written-long v to =
-      λ i. standsAt s p to (wroteMark s r c (own-long-lived s p long i) v) (withMark (own-mark-long i) v m)
+  own-written-long : (v : ℕ) (to : State) (turns : ℕ)
+      → standsAt s p to turns (wroteMark s r c (own s p) v) (withMark (markIndex s (blockNumber s r c) (own s p)) v m)
+      ≡ standsAt s p to turns (wroteMark s r c p v) (withMark (markOf s r c p) v m)
+  own-written-long v to turns =
+      λ i. standsAt s p to turns (wroteMark s r c (own-long-lived s p long i) v) (withMark (own-mark-long i) v m)
 
   leave-long : (direction : Direction) → Seeking r c (Clear direction) ≡ leave s r c direction
   leave-long direction = leave-clearing s r c direction (λ e. omega arith)
@@ -117,11 +118,11 @@ module _ (s : Settings) (once : s .mode ≡ 0) (p : ℕ) (m : Memory) (r c : ℕ
   mark-shown-once : (v : ℕ) → oneMark s m r c ≡ v → pointShown s p r c (Scan 0) m ≡ readMark s r c 0 v
   mark-shown-once v e = ap (readMark s r c 0) (mark-read-once v e)
 
-  own-written-once : (v : ℕ) (to : State)
-      → standsAt s p to (wroteMark s r c (own s p) v) (withMark (markIndex s (blockNumber s r c) (own s p)) v m)
-      ≡ standsAt s p to (wroteMark s r c 0 v) (withMark (blockNumber s r c) v m)
-  own-written-once v to =
-      λ i. standsAt s p to (wroteMark s r c (own-one-time s p once i) v) (withMark (own-mark-once i) v m)
+  own-written-once : (v : ℕ) (to : State) (turns : ℕ)
+      → standsAt s p to turns (wroteMark s r c (own s p) v) (withMark (markIndex s (blockNumber s r c) (own s p)) v m)
+      ≡ standsAt s p to turns (wroteMark s r c 0 v) (withMark (blockNumber s r c) v m)
+  own-written-once v to turns =
+      λ i. standsAt s p to turns (wroteMark s r c (own-one-time s p once i) v) (withMark (own-mark-once i) v m)
 
   not-marked-once : oneMark s m r c ≡ 0 → value s (pointAccess s p r c (Scan 0)) m ≡ 1 → ⊥
   not-marked-once e f = let z = mark-read-once 0 e in omega arith
@@ -130,7 +131,7 @@ module _ (s : Settings) (once : s .mode ≡ 0) (p : ℕ) (m : Memory) (r c : ℕ
 
 pub follows-the-rules : EachFollowsTheRules
 follows-the-rules s p m Ask t to (asks idle arrives) =
-    by-the-rules s (ask p) m t ∙ arrives-so s p 0 0 Nothing m to arrives
+    by-the-rules s (ask p) m t ∙ arrives-so s p 0 0 0 Nothing m to arrives
 follows-the-rules s p m Turn t to (write-x {r} {c} at) = turned-at s p m r c WriteX t at
 follows-the-rules s p m Turn t to (long-scan-marked {r} {c} {h} long at low e) =
     turned-to s p m r c (Scan h) (Seeking r c (Clear Right)) _ t at
@@ -149,15 +150,15 @@ follows-the-rules s p m Turn t to (once-scan-marked {r} {c} once at e moves) =
     turned-to s p m r c (Scan 0) (move s r c Right) _ t at
     (leave-at-once s r c Right once ∙ turning.scan-marked s p r c 0 _ (mark-read-once s once p m r c 1 e))
     (mark-shown-once s once p m r c 1 e)
-    ∙ moves-so s p r c Right _ m to moves
+    ∙ moves-so s p r c Right _ _ m to moves
 follows-the-rules s p m Turn t to (once-scan-clear {r} {c} once at e) =
     turned-to s p m r c (Scan 0) (Seeking r c WriteMark) _ t at
     (turning.scan-done s p r c 0 _ (not-marked-once s once p m r c e) (let w = width-one-time s once in omega arith))
     (mark-shown-once s once p m r c 0 e)
 follows-the-rules s p m Turn t to (long-write-mark {r} {c} long at) =
-    turned-at s p m r c WriteMark t at ∙ own-written-long s long p m r c 1 (Seeking r c ReadX)
+    turned-at s p m r c WriteMark t at ∙ own-written-long s long p m r c 1 (Seeking r c ReadX) _
 follows-the-rules s p m Turn t to (once-write-mark {r} {c} once at) =
-    turned-at s p m r c WriteMark t at ∙ own-written-once s once p m r c 1 (Seeking r c ReadX)
+    turned-at s p m r c WriteMark t at ∙ own-written-once s once p m r c 1 (Seeking r c ReadX) _
 follows-the-rules s p m Turn t to (read-x-own {r} {c} at e) =
     turned-to s p m r c ReadX (Holding r c) _ t at (turning.reads-own s p r c (xOf s m r c) e) (ap (readX s r c) e)
 follows-the-rules s p m Turn t to (long-read-x-other {r} {c} long at other) =
@@ -166,11 +167,11 @@ follows-the-rules s p m Turn t to (long-read-x-other {r} {c} long at other) =
 follows-the-rules s p m Turn t to (once-read-x-other {r} {c} once at other moves) =
     turned-to s p m r c ReadX (move s r c Down) _ t at
     (leave-at-once s r c Down once ∙ turning.reads-other s p r c _ other) refl
-    ∙ moves-so s p r c Down _ m to moves
+    ∙ moves-so s p r c Down _ _ m to moves
 follows-the-rules s p m Turn t to (clear {r} {c} {direction} long at moves) =
     turned-at s p m r c (Clear direction) t at
-    ∙ own-written-long s long p m r c 0 (move s r c direction)
-    ∙ moves-so s p r c direction _ (withMark (markOf s r c p) 0 m) to moves
+    ∙ own-written-long s long p m r c 0 (move s r c direction) _
+    ∙ moves-so s p r c direction _ _ (withMark (markOf s r c p) 0 m) to moves
 follows-the-rules s p m Release t to (release-block {r} {c} long held on) =
     released s long p m r c t held
     ∙ rw (le-leb (r + c + 2) (s .k) on) (λ i. freesAt s p r c (wroteMark s r c (own-long-lived s p long i) 0)
@@ -189,22 +190,22 @@ zero-or-one v l = go (ℕ-discrete v 0)
 
 module _ (s : Settings) (p : ℕ) (m : Memory) where
   -- a task comes to the edge or to a block
-  arrival : (r c : ℕ) (shown : Shown) (left : Memory) → r + c + 1 ≤ s .k
-      → Arrives s p r c shown left (standsAt s p (arrive s r c) shown left)
-  arrival r c shown left within = go (ℕ-discrete (r + c + 1) (s .k))
+  arrival : (r c turns : ℕ) (shown : Shown) (left : Memory) → r + c + 1 ≤ s .k
+      → Arrives s p r c turns shown left (standsAt s p (arrive s r c) turns shown left)
+  arrival r c turns shown left within = go (ℕ-discrete (r + c + 1) (s .k))
     where
       To : State → Type 0
-      To state = Arrives s p r c shown left (standsAt s p state shown left)
+      To state = Arrives s p r c turns shown left (standsAt s p state turns shown left)
 
       go : Dec (r + c + 1 ≡ s .k) → To (arrive s r c)
       go (yes e) = subst To (arrive-edge s r c e) (edge e)
       go (no d) = subst To (arrive-block s r c d) (block (omega arith))
 
   -- and so does one that moves out of a block
-  going : (r c : ℕ) (direction : Direction) (shown : Shown) (left : Memory) → r + c + 2 ≤ s .k
-      → Moves s p r c direction shown left (standsAt s p (move s r c direction) shown left)
-  going r c Right shown left on = arrival r (c + 1) shown left (omega arith)
-  going r c Down shown left on = arrival (r + 1) c shown left (omega arith)
+  going : (r c : ℕ) (direction : Direction) (turns : ℕ) (shown : Shown) (left : Memory) → r + c + 2 ≤ s .k
+      → Moves s p r c direction turns shown left (standsAt s p (move s r c direction) turns shown left)
+  going r c Right turns shown left on = arrival r (c + 1) turns shown left (omega arith)
+  going r c Down turns shown left on = arrival (r + 1) c turns shown left (omega arith)
 
   -- a line that speaks of an accepted call says its outcome
   spoken : (kind : Kind) → AcceptedIn s (eventOf kind p) m → (to : Outcome) → Says s p m kind to
@@ -238,7 +239,7 @@ module _ (s : Settings) (p : ℕ) (m : Memory) where
 
           go : (oneMark s m r c ≡ 0) ⊎ (oneMark s m r c ≡ 1) → Spoken
           go (inl e) = spoken Turn t _ (once-scan-clear once at-first e)
-          go (inr e) = spoken Turn t _ (once-scan-marked once at-first e (going r c Right _ m (at .on-block)))
+          go (inr e) = spoken Turn t _ (once-scan-marked once at-first e (going r c Right _ _ m (at .on-block)))
       scan-spoken h at low (inr long) = go
           (zero-or-one (longMark s m r c h) (rw (mark-long s long p m r c h) at mark)) (ℕ-discrete (h + 1) (s .n))
         where
@@ -256,7 +257,7 @@ module _ (s : Settings) (p : ℕ) (m : Memory) where
       read-spoken : SeeksAt s p m r c ReadX → Dec (xOf s m r c ≡ p + 1) → (s .mode ≡ 0) ⊎ (s .mode ≡ 1) → Spoken
       read-spoken at (yes e) modes = spoken Turn t _ (read-x-own at e)
       read-spoken at (no other) (inl once) =
-          spoken Turn t _ (once-read-x-other once at other (going r c Down _ m (at .on-block)))
+          spoken Turn t _ (once-read-x-other once at other (going r c Down _ _ m (at .on-block)))
       read-spoken at (no other) (inr long) = spoken Turn t _ (long-read-x-other long at other)
 
       write-mark-spoken : SeeksAt s p m r c WriteMark → (s .mode ≡ 0) ⊎ (s .mode ≡ 1) → Spoken
@@ -270,7 +271,7 @@ module _ (s : Settings) (p : ℕ) (m : Memory) where
       turn-spoken ReadX at good = read-spoken at (ℕ-discrete (xOf s m r c) (p + 1)) (fair .modes)
       turn-spoken (Clear direction) at good =
           spoken Turn t _ (clear (eqb→eq (s .mode) 1 good) at
-          (going r c direction _ (withMark (markOf s r c p) 0 m) (at .on-block)))
+          (going r c direction _ _ (withMark (markOf s r c p) 0 m) (at .on-block)))
 
   -- ---- a release
 
@@ -287,7 +288,7 @@ module _ (s : Settings) (p : ℕ) (m : Memory) where
   by-record : (kind : Kind) → AcceptedIn s (eventOf kind p) m → Passed s (eventOf kind p) m
       → (state : State) → stateOf m p ≡ state → T (stateInRange s state) → wrongMoment kind state ≡ false
       → Says s p m kind (call s (eventOf kind p) m)
-  by-record Ask t ok Idle is good moment = spoken Ask t _ (asks is (arrival 0 0 Nothing m (ok .limits .k-least)))
+  by-record Ask t ok Idle is good moment = spoken Ask t _ (asks is (arrival 0 0 0 Nothing m (ok .limits .k-least)))
   by-record Ask t ok (Seeking r c point) is good moment = absurd (true≢false moment)
   by-record Ask t ok (Holding r c) is good moment = absurd (true≢false moment)
   by-record Turn t ok Idle is good moment = absurd (true≢false moment)

@@ -10,16 +10,16 @@ use Rattle.machine.specs.declared.{Settings.Settings, State.{State, the-
 use Rattle.machine.specs.declared.{Verdict.Verdict, Told.Told, Answer.Answer}
 use Rattle.machine.specs.promises.{Refusing.{NoneHolds, setupLines, setupSays}, Surplus.needed}
 use Rattle.machine.specs.promises.SettingUp.{clear, EachSetupClears}
-use Rattle.machine.proofs.calls.{Fresh.{setup-memory, lent-long, lent-idle}, Surplus.{same-rows, fill-needed}}
+use Rattle.machine.proofs.calls.{Fresh.{setup-memory, lent-long, lent-fresh}, Surplus.{same-rows, fill-needed}}
 use Rattle.machine.proofs.refusals.Refusing.{accepted-zero, started, setup-exactly}
 
 -- idle records, one by one and together
 all-idle : (records : List Record) (n : ℕ) → n ≤ length records
-    → ((p : ℕ) → p < n → getD records p idle .state ≡ Idle) → take n records ≡ replicate n idle
+    → ((p : ℕ) → p < n → getD records p idle ≡ idle) → take n records ≡ replicate n idle
 all-idle records zero long each = refl
 all-idle [] (suc n) long each = absurd (not-suc-le-zero long)
 all-idle (first ∷ records) (suc n) long each =
-    ap₂ (λ (state : State) (rest : List Record). record { state = state } ∷ rest) (each 0 (omega arith))
+    ap₂ (λ (one : Record) (rest : List Record). one ∷ rest) (each 0 (omega arith))
     (all-idle records n (le-of-suc-le-suc long) (λ p l. each (suc p) (omega arith)))
 
 module _ (s : Settings) (m : Memory) where
@@ -42,7 +42,7 @@ module _ (s : Settings) (m : Memory) where
   clears none =
       ap (needed s) (setup-memory s m (lent-done none))
       ∙ same-rows
-      (all-idle (m .records) (s .n) (lent-long s m (lent-done none) .records) (lent-idle s m (lent-done none)))
+      (all-idle (m .records) (s .n) (lent-long s m (lent-done none) .records) (lent-fresh s m (lent-done none)))
       (fill-needed (blocks s) 0 (m .xs))
       (fill-needed (marksNeeded s) 0 (m .marks))
 

@@ -9,9 +9,10 @@ use Rattle.machine.specs.{Places.blocks, Records.{idle, isOut, recordInR
 use Rattle.machine.specs.Memory.{Memory, marksNeeded, markIndex, stateOf, withRecord, content, put}
 use Rattle.machine.specs.Memory.{xInRange, markInRange}
 use Rattle.machine.specs.Memory.{badRecord, badX, badMark, outOf, viewOf, fill}
-use Rattle.machine.specs.Turn.{opWrites, seen, left, access, value, store, shownBy, next}
+use Rattle.machine.specs.Turn.{opWrites, seen, left, access, value, store, shownBy, next, turnsAfter}
 use Rattle.machine.specs.{Refusals.{rowShort, setupVerdict}, Answers.plain}
-use Rattle.machine.specs.Calls.{Outcome, toldOf, nextState, shownOf, accept, refuseOr, verdictOf, call}
+use Rattle.machine.specs.Calls.{Outcome, toldOf, nextState, shownOf, recordAfter, accept, refuseOr, verdictOf}
+use Rattle.machine.specs.Calls.{call}
 use Rattle.machine.specs.Calls.{cleared, setup}
 use Rattle.machine.specs.declared.{Settings.Settings, State.State, Record.Record}
 use Rattle.machine.specs.declared.{Register.{Register, the-variants.{X, Mark}}, Op.Op}
@@ -176,10 +177,12 @@ accept-cut s kind p state m low h =
     let same : nextState s kind p state (needed s m) ≡ nextState s kind p state m = ap (next s kind p state) read in
     let shown : shownOf s kind p state (needed s m) ≡ shownOf s kind p state m =
     ap (shownBy (access s kind p state)) read in
+    let own = getD-take (s .n) (m .records) p idle low in
+    let after : recordAfter s kind p state (needed s m) ≡ recordAfter s kind p state m =
+    λ i. record { state = same i; turns = turnsAfter kind state (own i .turns) } in
     let memory =
-    ap₂ (λ (new : State) (stored : Memory). withRecord p (record { state = new }) stored) same
-    (needed-store s m (access s kind p state) h)
-    ∙ needed-with s (store s (access s kind p state) m) p (record { state = nextState s kind p state m }) low
+    ap₂ (withRecord p) after (needed-store s m (access s kind p state) h)
+    ∙ needed-with s (store s (access s kind p state) m) p (recordAfter s kind p state m) low
     in
     λ i. record { answer = record { told = toldOf s kind state (same i); shown = shown i }; memory = memory i }
 
@@ -198,7 +201,7 @@ call-cut s event m = rw (same-verdict s m event) (go (verdictOf s event m) refl)
     go (Verdict.Refused why) e = refl
 
 setup-cut : (s : Settings) (m : Memory) → setup s (needed s m) ≡ cut s (setup s m)
-setup-cut s m = rw (same-short s m, same-out s m) (go (setupVerdict s (viewOf s (m .records) 0) m))
+setup-cut s m = rw (same-short s m, same-out s m, same-bad-record s m) (go (setupVerdict s (viewOf s (m .records) 0) m))
   where
     filled : cleared s (needed s m) ≡ needed s (cleared s m)
     filled = same-rows refl (needed-fill (blocks s) 0 (m .xs))

@@ -7,6 +7,7 @@ use Rattle.machine.specs.{Places.nameNumber, Records.isSeeking, Memory.{
 use Rattle.machine.specs.Calls.{Outcome, eventOf, standing, freed, toldOf, nextState, call}
 use Rattle.machine.specs.promises.{Demands.Seeks, OneAccess.AcceptedIn, Telling.EachAnswerTells}
 use Rattle.machine.specs.declared.{Settings.Settings, State.{State, the-variants.{Idle, Seeking, Holding}}}
+use Rattle.machine.specs.declared.Record.{Record}
 use Rattle.machine.specs.declared.{Kind.{Kind, the-variants.{Ask, Turn, Release}}, Told.Told, Answer.Answer}
 use Rattle.machine.specs.Answers.{toldSaid, Tells}
 use Rattle.machine.proofs.{refusals.Passing.by-the-rules, calls.Effects.only-the-register-written-changes}
@@ -27,7 +28,7 @@ module _ (s : Settings) (p : ℕ) (m : Memory) where
 
   -- the record and the answer of an accepted call
   after : (kind : Kind) → AcceptedIn s (eventOf kind p) m → stateOf (call s (eventOf kind p) m .memory) p ≡ next kind
-  after kind t = only-the-register-written-changes s (eventOf kind p) m t .own
+  after kind t = ap (λ (r : Record). r .state) (only-the-register-written-changes s (eventOf kind p) m t .own)
 
   answered : (kind : Kind) → AcceptedIn s (eventOf kind p) m
       → call s (eventOf kind p) m .answer .told ≡ toldOf s kind (stateOf m p) (next kind)

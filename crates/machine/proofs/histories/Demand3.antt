@@ -1,14 +1,16 @@
--- Demand 3, whole: the eight statements of `specs/Demands`, proved. Read this file first. J0 to J3 hold after every
--- call (`Histories`), and so: no two tasks hold one place (`Names`), a holder knows its name (`Told`), a seeking task's
--- turn is accepted (`Seekers`), it takes no more turns than the bound (`Served`), and the worst schedule takes as many
--- (`Exact`).
+-- Demand 3, whole, and 02, P7: the nine statements of `specs/Demands`, proved. Read this file first. J0 to J3 hold
+-- after every call (`Histories`), and so: no two tasks hold one place (`Names`), a holder knows its name (`Told`), a
+-- seeking task's turn is accepted (`Seekers`), it takes no more turns than the bound and its record tells how many
+-- (`Served`), and the worst schedule takes as many (`Exact`).
 use mathlib.Core.Path.{_≡_, sym, _∙_}
 use native.Mathlib.Decide.{ℕ-discrete}
+use Rattle.machine.specs.Settings.{bound}
 use Rattle.machine.specs.promises.Demands.{HeldNamesDiffer, HeldNamesBelow, LastAnswerTrue, HeldNameAnswered}
-use Rattle.machine.specs.promises.Demands.{SeekerNeverRefused, bound, ServedWithin, BoundExact, SetupTakes}
+use Rattle.machine.specs.promises.Demands.{SeekerNeverRefused, ServedWithin, EachTurnsTold, BoundExact}
+use Rattle.machine.specs.promises.Demands.{SetupTakes}
 use Rattle.machine.proofs.bridge.{Numbering.name-numbering, Names.{held-place, one-place}}
 use Rattle.machine.proofs.histories.{Told.told, Seekers.seeker-accepted}
-use Rattle.machine.proofs.histories.{Served.{seeking-used, holding-used, served-alone}, Worst.worst}
+use Rattle.machine.proofs.histories.{Served.{seeking-used, holding-used, served-alone, turns-told}, Worst.worst}
 use Rattle.machine.proofs.histories.Exact.{worst-needs-bound, setup-takes-largest}
 use Rattle.machine.proofs.histories.Told as told
 
@@ -47,6 +49,9 @@ served-within s lent events ok p l = record {
       (λ before _. seeking-used s lent ok p l before) (λ _ _. tt) events tt seeks in
       (more, within, holds);
 }
+
+pub each-turns-told : EachTurnsTold
+each-turns-told s lent events ok p l = turns-told s lent ok p l events
 
 pub bound-exact : BoundExact
 bound-exact s within = (worst s, worst-needs-bound s)

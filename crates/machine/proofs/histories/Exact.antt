@@ -1,12 +1,13 @@
 -- Demand 3, "For each permitted mode, N and k some sequence makes one task need exactly that many": the worst schedule
 -- does, with task 0; and setup takes a memory with rows long enough, so that there is a history to speak of.
 use mathlib.Core.{Path.{_≡_, sym, ap, subst, _∙_}, List.{List, [], _∷_, _++_}}
-use Prim.Native.Nat.{ℕ, _≤_}
-use native.Mathlib.Nat.{mul-le-mul}
+use Prim.Native.Nat.{ℕ, _≤_, _<_}
+use native.Mathlib.Nat.{le-refl, mul-le-mul}
 use lib.{Dec.T, ListN.{length, replicate, length-replicate}}
 use borrow.Author.Tests.{le-ltb, not-false}
-use Rattle.machine.specs.{Places.blocks, Records.{idle, isSeeking, isOut}}
-use Rattle.machine.specs.{Memory.{Memory, marksNeeded, stateOf, outOf, largest}, Answers.isAccepted}
+use Rattle.machine.specs.{Places.blocks, Records.{idle, isSeeking, isOut, recordInRange}}
+use Rattle.machine.specs.Memory.{Memory, marksNeeded, recordOf, stateOf, badRecord, outOf, largest}
+use Rattle.machine.specs.Answers.{isAccepted}
 use Rattle.machine.specs.Calls.{Outcome, call, setup, turn}
 use Rattle.machine.specs.promises.Ranges.{WithinLimits}
 use Rattle.machine.specs.promises.Demands.{SetUp, memoryAfter, historyOf, Seeks, HoldsSome, allAccepted}
@@ -17,7 +18,7 @@ use Rattle.machine.proofs.histories.{WorstTurns.{worst-turns, worst-las
 use Rattle.machine.proofs.refusals.Limits.{limits-tested, width-most}
 use Rattle.machine.proofs.calls.{Fresh.setup-within, Outcomes.{Called, taken, refused, called}}
 use Rattle.machine.proofs.bridge.Histories.{always-in-order}
-use Rattle.counting.proofs.{Tested.passes, Lists.one-value, Searching.count-none}
+use Rattle.counting.proofs.{Tested.passes, Lists.one-value, Searching.{none-bad, count-none}}
 use Rattle.grid.proofs.Triangle.{half-most}
 
 -- ---- the worst schedule
@@ -63,14 +64,21 @@ worst-needs-bound s lent ok =
 
 pub setup-takes-long-rows : (s : Settings) (m : Memory) → WithinLimits s → s .n ≤ length (m .records)
     → blocks s ≤ length (m .xs)
-    → marksNeeded s ≤ length (m .marks) → outOf s (m .records) ≡ 0 → SetUp s m
-setup-takes-long-rows s m fair a b c none =
+    → marksNeeded s ≤ length (m .marks) → ((p : ℕ) → p < s .n → recordOf m p ≡ idle) → SetUp s m
+setup-takes-long-rows s m fair a b c fresh =
+    let none : outOf s (m .records) ≡ 0 =
+    count-none (λ p. isOut (stateOf m p)) (s .n) (λ p l. ap (λ (r : Record). isOut (r .state)) (fresh p l)) in
+    let good : badRecord s (m .records) ≡ s .n =
+    none-bad (λ p. recordInRange s (recordOf m p)) (s .n)
+    (λ p l. subst (λ (r : Record). T (recordInRange s r)) (sym (fresh p l)) tt) in
     rw (
       passes (limits-tested s) fair,
       le-ltb (length (m .records)) (s .n) a,
       le-ltb (length (m .xs)) (blocks s) b,
       le-ltb (length (m .marks)) (marksNeeded s) c,
       none,
+      good,
+      le-ltb (s .n) (s .n) (le-refl (s .n)),
     )
 
 long : {A : Type 0} (n : ℕ) (a : A) (need : ℕ) → need ≤ n → need ≤ length (replicate n a)
@@ -81,5 +89,4 @@ setup-takes-largest s bounds =
     let few = half-most (s .k) (bounds .k-most) in
     setup-takes-long-rows s largest bounds (long 256 idle (s .n) (bounds .n-most)) (long {A = ℕ} 120 0 (blocks s) few)
     (long {A = ℕ} 30720 0 (marksNeeded s) (mul-le-mul few (width-most s bounds)))
-    (count-none (λ p. isOut (stateOf largest p)) (s .n)
-    (λ p l. ap (λ (r : Record). isOut (r .state)) (one-value 256 p idle)))
+    (λ p l. one-value 256 p idle)

@@ -20,7 +20,7 @@ use Rattle.machine.proofs.bridge.AsGrid.{rulesOf, standOf, xAt, gridOf}
 use Rattle.machine.proofs.bridge.Numbering.{triangle-half, by-diagonals}
 use Rattle.machine.proofs.bridge.Histories.{rules, all-in-place, Invariants, invariants-kept, call-out}
 use Rattle.machine.proofs.bridge.Histories.{fresh-invariants}
-use Rattle.machine.proofs.histories.Served.{seeks-at, always-within, served-alone}
+use Rattle.machine.proofs.{bridge.Spending.seeks-at, histories.Served.{always-within, served-alone}}
 use Rattle.counting.proofs.Counting.{count-one}
 use Rattle.grid.proofs.{Stands.{unless-least, ownX, rowReach, columnReach}, Covered.covered-near, Triangle.diagonals}
 use Rattle.grid.specs.Triangle.{diagonalNumber}

@@ -1,41 +1,31 @@
 -- Demand 3, "From an accepted ask, a task holds a name within (N+4)(k-1) of its own accepted turns if long-lived,
 -- 4(k-1) if one-time, though every other task stops for good".
 use mathlib.Core.{Path.{_≡_, refl, sym, ap, subst, _∙_}, Logic.{_⊎_, inl, inr, ⊎-elim}}
-use mathlib.Core.{Bool.{Bool, true, false, cond, _&&_}, List.{List, [], _∷_, _++_, append-assoc}}
-use Prim.Native.Nat.{ℕ, zero, suc, _+_, _-_, _*_, _≤_, _<_, zero-le}
-use native.Mathlib.{Nat.{le-trans, mul-le-mul-right}, Omega.arith}
+use mathlib.Core.{Bool.{Bool, true, false, cond, _&&_, true≢false}, List.{List, [], _∷_, _++_, append-assoc}}
+use Prim.Native.Nat.{ℕ, zero, suc, _+_, _-_, _*_, _≤_, _<_}
+use native.Mathlib.{Nat.le-trans, Omega.arith}
 use lib.Dec.{T, eqb}
-use borrow.Author.Tests.{eqb-true, eqb-false, eq-eqb, ne-eqb, not-false}
-use Rattle.machine.specs.{Settings.width, Records.{isSeeking, isHolding}, Memory.{Memory, stateOf}}
-use Rattle.machine.specs.{Answers.isAccepted, Turn.arrive, Refusals.wrongMoment}
-use Rattle.machine.specs.Calls.{Outcome, accept, call, setup, turn}
+use borrow.Author.Tests.{eqb-true, eqb-false, eq-eqb}
+use Rattle.machine.specs.{Settings.{width, bound}, Records.{isSeeking, isHolding, isOut}}
+use Rattle.machine.specs.{Memory.{Memory, stateOf, turnsIn}, Turn.turnsAfter, Refusals.wrongMoment}
+use Rattle.machine.specs.{Answers.isAccepted, Calls.{Outcome, nextState, accept, call, setup, turn}}
 use Rattle.machine.specs.History.{run, Answered, history, counted, turnsOf, turns}
-use Rattle.machine.specs.promises.Demands.{SetUp, memoryAfter, historyOf, used, Seeks, HoldsSome, bound}
+use Rattle.machine.specs.promises.Demands.{SetUp, memoryAfter, historyOf, used, Seeks, HoldsSome, TurnsTold}
 use Rattle.machine.specs.promises.Ranges.{WithinLimits}
-use Rattle.machine.specs.declared.{Settings.Settings, Point.the-variants.{WriteX, Scan, WriteMark, ReadX, Clear}}
+use Rattle.machine.specs.declared.{Settings.Settings, Record.Record}
 use Rattle.machine.specs.declared.State.{State, the-variants.{Idle, Seeking, Holding}}
 use Rattle.machine.specs.declared.{Kind.{Kind, the-variants.{Ask, Turn, Release}}, Event.Event}
 use Rattle.machine.proofs.calls.Fresh.{setup-within, fresh-idle}
 use Rattle.machine.proofs.calls.Outcomes.{Called, taken, refused, accepted-answer, called, may-accepted}
-use Rattle.machine.proofs.bridge.AsGrid.{rulesOf, standOf}
-use Rattle.machine.proofs.bridge.Steps.{arrives, in-place, caller-after, others-after, caller-moves}
-use Rattle.machine.proofs.bridge.Histories.{rules, all-in-place, InOrder, in-order-kept, fresh-in-order}
+use Rattle.machine.proofs.bridge.{AsGrid.standOf, Steps.{caller-record, others-record, caller-after}}
+use Rattle.machine.proofs.bridge.Spending.{rules, seeks-at, bound-enough, turned-within}
+use Rattle.machine.proofs.bridge.Histories.{all-in-place, InOrder, in-order-kept, fresh-in-order}
 use Rattle.machine.proofs.bridge.Histories.{always-in-order, run-append, history-append}
-use Rattle.machine.proofs.{histories.Seekers.seeker-may, refusals.{Passed.Fit, Refusing.ruled}}
-use Rattle.grid.proofs.Stands.{Rules, Stand, idle, at, InPlace}
-use Rattle.grid.proofs.Spent.{cost, Within, OutWithin, SeeksAt, arrives-within, turn-within, seeking-within}
-use Rattle.grid.proofs.Spent.{holding-within}
+use Rattle.machine.proofs.{histories.Seekers.seeker-may, refusals.{Passed.Fit, Refusing.ruled, Lines.turns-line}}
+use Rattle.grid.proofs.Stands.{Rules, InPlace}
+use Rattle.grid.proofs.Spent.{cost, Within, OutWithin, seeking-within, holding-within}
 
 -- ---- records and stands
-
-pub seeks-at : (W : ℕ) (state : State) → T (isSeeking state) → SeeksAt (standOf W state)
-seeks-at W Idle t = t
-seeks-at W (Seeking r c WriteX) t = tt
-seeks-at W (Seeking r c (Scan h)) t = tt
-seeks-at W (Seeking r c WriteMark) t = tt
-seeks-at W (Seeking r c ReadX) t = tt
-seeks-at W (Seeking r c (Clear d)) t = tt
-seeks-at W (Holding r c) t = absurd t
 
 out-seeks-or-holds : (R : Rules) (W t : ℕ) (state : State) → OutWithin R (standOf W state) t
     → T (isSeeking state) ⊎ T (isHolding state)
@@ -43,71 +33,77 @@ out-seeks-or-holds R W t Idle h = absurd h
 out-seeks-or-holds R W t (Seeking r c point) h = inl tt
 out-seeks-or-holds R W t (Holding r c) h = inr tt
 
-out-within : (R : Rules) (stand : Stand) (t : ℕ) → OutWithin R stand t → Within R stand t
-out-within R idle t h = tt
-out-within R (at r c g) t h = h
+seeker-out : (state : State) → T (isSeeking state) → T (isOut state)
+seeker-out Idle t = t
+seeker-out (Seeking r c point) t = tt
+seeker-out (Holding r c) t = tt
 
--- the bound is enough for k - 1 blocks
-pub bound-enough : (s : Settings) (l : WithinLimits s) → cost (rulesOf s l) * (s .k - 1) ≤ bound s
-bound-enough s l = go (l .modes)
-  where
-    go : (s .mode ≡ 0) ⊎ (s .mode ≡ 1) → cost (rulesOf s l) * (s .k - 1) ≤ bound s
-    go (inl e) = rw (eq-eqb (s .mode) 0 e) (mul-le-mul-right (s .k - 1) (omega arith))
-    go (inr e) = rw (ne-eqb (s .mode) 0 (λ z. omega arith)) (mul-le-mul-right (s .k - 1) (omega arith))
+holder-out : (state : State) → T (isHolding state) → T (isOut state)
+holder-out Idle t = t
+holder-out (Seeking r c point) t = tt
+holder-out (Holding r c) t = tt
 
--- ---- each call
+-- ---- the turns in the record are those counted
+
+-- where the task is out
+abbrev Counts : Memory → ℕ → ℕ → Type 0
+Counts m p t = T (isOut (stateOf m p)) → turnsIn m p ≡ t
+
+turns-out : (kind : Kind) (state after : State) (used t : ℕ) → wrongMoment kind state ≡ false
+    → (T (isOut state) → used ≡ t) → (kind ≡ Release → after ≡ Idle) → T (isOut after)
+    → turnsAfter kind state used ≡ counted kind t
+turns-out Ask state after used t e same freed out = refl
+turns-out Turn Idle after used t e same freed out = absurd (true≢false e)
+turns-out Turn (Seeking r c point) after used t e same freed out = ap (λ (n : ℕ). n + 1) (same tt)
+turns-out Turn (Holding r c) after used t e same freed out = absurd (true≢false e)
+turns-out Release state after used t e same freed out =
+    absurd (let z : T (isOut Idle) = rw (freed refl) at out in z)
 
 module _ (s : Settings) (fair : WithinLimits s) (p : ℕ) (m : Memory) (sound : Fit s m) (t : ℕ) where
-  -- task p may have taken t turns
-  abbrev Used : Memory → ℕ → Type 0
-  Used memory count = Within (rules s fair) (standOf (width s) (stateOf memory p)) count
+  own-call-counts : (kind : Kind) → p < s .n → wrongMoment kind (stateOf m p) ≡ false → Counts m p t
+      → Counts (accept s kind p (stateOf m p) m .memory) p (counted kind t)
+  own-call-counts kind l e h =
+      subst (λ (r : Record). T (isOut (r .state)) → r .turns ≡ counted kind t)
+      (sym (caller-record s fair m sound p l kind (stateOf m p)))
+      (turns-out kind (stateOf m p) (nextState s kind p (stateOf m p) m) (turnsIn m p) t e h (freed kind))
+    where
+      freed : (k : Kind) → k ≡ Release → nextState s k p (stateOf m p) m ≡ Idle
+      freed Ask release = absurd (let z : _≡_ {A = ℕ} 0 1 = cc in let none : ⊥ = omega arith in none)
+      freed Turn release = absurd (let z : _≡_ {A = ℕ} 0 1 = cc in let none : ⊥ = omega arith in none)
+      freed Release release = refl
 
-  -- a turn of task p while it seeks
-  own-turn-within : p < s .n → T (isSeeking (stateOf m p)) → Used m t
-      → OutWithin (rules s fair) (standOf (width s) (stateOf (accept s Turn p (stateOf m p) m .memory) p)) (t + 1)
-  own-turn-within l seeks h =
-      rw (caller-after s fair m sound p l Turn (stateOf m p))
-      (turn-within (rules s fair) t (caller-moves s fair m sound p l Turn refl (seeker-may s m p l seeks .moment) .1)
-      (seeks-at (width s) (stateOf m p) seeks) (in-place s fair (stateOf m p) (sound .in-range .records p l)) h)
-
-  own-call-within : (kind : Kind) → p < s .n → wrongMoment kind (stateOf m p) ≡ false → Used m t
-      → Used (accept s kind p (stateOf m p) m .memory) (counted kind t)
-  own-call-within Ask l e h =
-      rw (caller-after s fair m sound p l Ask (stateOf m p))
-      (out-within (rules s fair) (standOf (width s) (arrive s 0 0)) 0
-      (arrives-within (rules s fair) 0 (arrives s fair 0 0 (fair .k-least)) zero-le))
-  own-call-within Turn l e h =
-      out-within (rules s fair) (standOf (width s) (stateOf (accept s Turn p (stateOf m p) m .memory) p)) (t + 1)
-      (own-turn-within l (rw (not-false (isSeeking (stateOf m p)) e) tt) h)
-  own-call-within Release l e h = rw (caller-after s fair m sound p l Release (stateOf m p)) tt
-
-  call-within : (event : Event) → Used m t
-      → Used (call s event m .memory) (cond (isAccepted (call s event m .answer) && eqb (event .task .0) p)
+  call-counts : (event : Event) → Counts m p t
+      → Counts (call s event m .memory) p (cond (isAccepted (call s event m .answer) && eqb (event .task .0) p)
       (counted (event .kind) t) t)
-  call-within event h = go (call s event m) (called s fair event m sound) (eqb (event .task .0) p) refl
+  call-counts event h = go (call s event m) (called s fair event m sound) (eqb (event .task .0) p) refl
     where
       go : (outcome : Outcome) → Called s event m outcome → (its : Bool) → eqb (event .task .0) p ≡ its
-          → Used (outcome .memory) (cond (isAccepted (outcome .answer) && its) (counted (event .kind) t) t)
+          → Counts (outcome .memory) p (cond (isAccepted (outcome .answer) && its) (counted (event .kind) t) t)
       go outcome (refused why) its e = h
       go outcome (taken o) true e =
           let z : event .task .0 ≡ p = eqb-true (event .task .0) p e in
           rw (accepted-answer s event m, z)
-          (own-call-within (event .kind) (rw z at (o .known)) (rw z at (o .moment)) h)
+          (own-call-counts (event .kind) (rw z at (o .known)) (rw z at (o .moment)) h)
       go outcome (taken o) false e =
           let d : p ≡ event .task .0 → ⊥ = λ f. eqb-false (event .task .0) p e (sym f) in
-          rw (
-            accepted-answer s event m,
-            others-after s fair m sound (event .task .0) (o .known) (event .kind) (stateOf m (event .task .0)) p d,
-          ) h
+          rw (accepted-answer s event m)
+          (subst (λ (r : Record). T (isOut (r .state)) → r .turns ≡ t)
+          (sym (others-record s fair m sound (event .task .0) (o .known) (event .kind)
+          (stateOf m (event .task .0)) p d)) h)
 
-turns-within : (s : Settings) (fair : WithinLimits s) (p : ℕ) (events : List Event) (m : Memory) (t : ℕ)
-    → InOrder s fair m
-    → Within (rules s fair) (standOf (width s) (stateOf m p)) t
-    → Within (rules s fair) (standOf (width s) (stateOf (run s events m) p)) (turnsOf p (history s events m) t)
-turns-within s fair p [] m t f h = h
-turns-within s fair p (event ∷ events) m t f h =
-    turns-within s fair p events (call s event m .memory) _ (in-order-kept s fair event m f)
-    (call-within s fair p m (f .invariants .fit) t event h)
+counts-on : (s : Settings) (fair : WithinLimits s) (p : ℕ) (events : List Event) (m : Memory) (t : ℕ)
+    → InOrder s fair m → Counts m p t → Counts (run s events m) p (turnsOf p (history s events m) t)
+counts-on s fair p [] m t f h = h
+counts-on s fair p (event ∷ events) m t f h =
+    counts-on s fair p events (call s event m .memory) _ (in-order-kept s fair event m f)
+    (call-counts s fair p m (f .invariants .fit) t event h)
+
+-- what is so of the one count is so of the other
+within-as : (R : Rules) (W : ℕ) (state : State) (t u : ℕ) → (T (isOut state) → t ≡ u) → Within R (standOf W state) t
+    → Within R (standOf W state) u
+within-as R W Idle t u same h = tt
+within-as R W (Seeking r c point) t u same h = subst (Within R (standOf W (Seeking r c point))) (same tt) h
+within-as R W (Holding r c) t u same h = subst (Within R (standOf W (Holding r c))) (same tt) h
 
 -- ---- every history
 
@@ -123,11 +119,28 @@ module _ (s : Settings) (lent : Memory) (ok : SetUp s lent) (p : ℕ) (l : p < s
   sound : (events : List Event) → Fit s (memoryAfter s lent events)
   sound events = always-in-order s lent ok events .invariants .fit
 
+  -- the turns in the record are the turns used
+  pub turns-counted : (events : List Event) → T (isOut (stateOf (memoryAfter s lent events) p))
+      → turnsIn (memoryAfter s lent events) p ≡ used s lent events p
+  turns-counted events =
+      counts-on s fair p events (setup s lent .memory) 0 (fresh-in-order s lent ok)
+      (λ out. absurd (let z : T (isOut Idle) = rw (fresh-idle s lent ok p l) at out in z))
+
+  -- and they are in range
+  pub turns-told : (events : List Event) → TurnsTold s lent events p
+  turns-told events = record {
+    counted = ⊎-elim (λ seeks. turns-counted events (seeker-out (stateOf (memoryAfter s lent events) p) seeks))
+        (λ holds. turns-counted events (holder-out (stateOf (memoryAfter s lent events) p) holds));
+    in-range = turns-line s fair (stateOf (memoryAfter s lent events) p) (turnsIn (memoryAfter s lent events) p)
+        .says (sound events .in-range .turns p l);
+  }
+
   pub always-within : (events : List Event)
       → Within (rules s fair) (standOf (width s) (stateOf (memoryAfter s lent events) p)) (used s lent events p)
   always-within events =
-      turns-within s fair p events (setup s lent .memory) 0 (fresh-in-order s lent ok)
-      (rw (fresh-idle s lent ok p l) tt)
+      within-as (rules s fair) (width s) (stateOf (memoryAfter s lent events) p)
+      (turnsIn (memoryAfter s lent events) p) (used s lent events p) (turns-counted events)
+      (always-in-order s lent ok events .invariants .spent p l)
 
   pub seeking-used : (events : List Event) → Seeks (memoryAfter s lent events) p → used s lent events p < bound s
   seeking-used events seeks =
@@ -176,8 +189,10 @@ module _ (s : Settings) (lent : Memory) (ok : SetUp s lent) (p : ℕ) (l : p < s
       ∙ ap (λ (outcome : Outcome). outcome .memory) (turn-taken events seeks))
       (out-seeks-or-holds (rules s fair) (width s) (used s lent events p + 1)
       (stateOf (ruled s (turn p) (memoryAfter s lent events) .memory) p)
-      (own-turn-within s fair p (memoryAfter s lent events) (sound events) (used s lent events p) l seeks
-      (always-within events)))
+      (rw (caller-after s fair (memoryAfter s lent events) (sound events) p l Turn
+      (stateOf (memoryAfter s lent events) p))
+      (turned-within s fair (memoryAfter s lent events) (sound events) p l (used s lent events p)
+      (seeker-may s (memoryAfter s lent events) p l seeks .moment) (always-within events))))
 
   -- Where a task that seeks has used fewer than `most` turns, and its own turn leaves the memory so (`Kept`), what is
   -- left of them is enough.

@@ -3,12 +3,14 @@ use mathlib.Core.{Path.{_≡_, refl, ap, subst, _∙_}, Logic.{inl, inr}, List.{
 use Prim.Native.Nat.{ℕ, _≤_, _<_}
 use native.Mathlib.{Decide.ℕ-discrete, Omega.arith}
 use lib.{Dec.T, ListN.length}
-use Rattle.machine.specs.{Memory.{Memory, stateOf}, Calls.{call, setup}, History.{Answered, history, run}}
+use Rattle.machine.specs.Records.{idle}
+use Rattle.machine.specs.{Memory.{Memory, recordOf, stateOf}, Calls.{call, setup}}
+use Rattle.machine.specs.History.{Answered, history, run}
 use Rattle.machine.specs.promises.{Refusing.{SomeRowShort, setupSays}, Ranges.WithinLimits}
 use Rattle.machine.specs.promises.Demands.{SetUp, memoryAfter}
 use Rattle.machine.specs.promises.Setups.{Act, calls, sets-up, callsIn, memoryOf, answersOf, SetupsRefused}
 use Rattle.machine.specs.promises.Setups.{SetupsAmongCalls}
-use Rattle.machine.specs.declared.{Settings.Settings, State.the-variants.Idle, Event.Event}
+use Rattle.machine.specs.declared.{Settings.Settings, State.the-variants.Idle, Record.Record, Event.Event}
 use Rattle.machine.proofs.refusals.{Lines.short-line, Passed.{Fit, none-short}}
 use Rattle.machine.proofs.refusals.Refusing.{setup-exactly, refused-changes-nothing}
 use Rattle.machine.proofs.{calls.Fresh.setup-within, bridge.Histories.always-in-order}
@@ -27,7 +29,13 @@ module _ (s : Settings) (lent : Memory) (events : List Event) (ok : SetUp s lent
       let fair = setup-within s lent ok in
       let fit = always-in-order s lent ok events .invariants .fit in
       setup-exactly s m .refused 18 (omega arith) .1
-      (inr (λ outside. outside fair, inr (none-lacks s m fair fit, inl ((p, l, out), refl))))
+      (inr (
+        λ outside. outside fair,
+        inr (
+          none-lacks s m fair fit,
+          inl ((p, l, λ e. out (ap (λ (r : Record). r .state) e)), refl),
+        ),
+      ))
 
   declined : (setupSays s m .number ≡ 18) × (setup s m .memory ≡ m)
   declined = (eighteen, refused-changes-nothing .setups s m (let e = eighteen in omega arith))
@@ -43,7 +51,7 @@ setups-dropped s (sets-up t ∷ acts) m refused =
     let stays = refused-changes-nothing .setups t m (refused .0) in
     (memory ∙ ap (run s (callsIn acts)) stays, answers ∙ ap (history s (callsIn acts)) stays)
 
-over-busy : (t : Settings) (m : Memory) (p : ℕ) → p < t .n → (stateOf m p ≡ Idle → ⊥)
+over-busy : (t : Settings) (m : Memory) (p : ℕ) → p < t .n → (recordOf m p ≡ idle → ⊥)
     → (1 ≤ setupSays t m .number) × (setup t m .memory ≡ m)
 over-busy t m p l out = (refused, refused-changes-nothing .setups t m refused)
   where

@@ -4,11 +4,11 @@ use Prim.Native.Nat.{ℕ, zero, suc, _+_, _-_, _*_, _≤_, _<_}
 use native.Mathlib.{Nat.{le-antisymm, mul-le-mul-right, not-suc-le-zero}, Decide.decLt, Omega.arith}
 use lib.Dec.{eqb, eqb·suc-zero}
 use borrow.Author.Tests.{eq-eqb, ne-eqb}
-use Rattle.machine.specs.{Settings.width, Calls.{ask, turn}, History.turns}
-use Rattle.machine.specs.promises.{Demands.bound, Light.lightBound, Ranges.WithinLimits}
+use Rattle.machine.specs.{Settings.{width, bound}, Calls.{ask, turn}, History.turns}
+use Rattle.machine.specs.promises.{Light.lightBound, Ranges.WithinLimits}
 use Rattle.machine.specs.declared.{Settings.Settings, Event.Event}
 use Rattle.machine.proofs.histories.Worst.{each, worstRow, worstRows, asks, descent, worst, worstLight}
-use Rattle.machine.proofs.histories.{Served.bound-enough, Light.light-enough}
+use Rattle.machine.proofs.{histories.Light.light-enough, bridge.Spending.bound-enough}
 use Rattle.machine.proofs.histories.Leads.{EndsWith, ends-alone, ends-append, ends-nil, writtenTurns}
 use Rattle.machine.proofs.histories.Leads.{written-append}
 use Rattle.machine.proofs.bridge.AsGrid.{rulesOf}

@@ -1,17 +1,21 @@
 -- Each line of the table of numbers against the test that the definitions make for it.
-use mathlib.Core.{Path.{_≡_, refl}, Logic.{_⊎_, inl, inr, ⊎-elim, _↔_}, Bool.{Bool, false, not, _&&_}, List.{List, _∷_}}
+use mathlib.Core.{Path.{_≡_, refl, ap}, Logic.{_⊎_, inl, inr, ⊎-elim, _↔_}, Bool.{Bool, false, not, _&&_}}
+use mathlib.Core.List.{List, _∷_}
 use Prim.Native.Nat.{ℕ, _+_, _≤_, _<_}
 use native.Mathlib.Omega.{arith}
-use lib.{Dec.{leb, ltb}, ListN.{length, getD}}
-use Rattle.machine.specs.{Settings.width, Places.blocks}
-use Rattle.machine.specs.Records.{isIdle, isSeeking, isHolding, isOut, pointInRange, stateInRange, recordInRange}
-use Rattle.machine.specs.Memory.{Memory, marksNeeded, recordOf, stateOf, xInRange, markInRange, outOf}
+use lib.{Dec.{eqb, leb, ltb}, ListN.{length, getD}}
+use Rattle.machine.specs.{Settings.{width, bound}, Places.blocks}
+use Rattle.machine.specs.Records.{idle, isIdle, isSeeking, isHolding, isOut, pointInRange, stateInRange}
+use Rattle.machine.specs.Records.{turnsInRange}
+use Rattle.machine.specs.Records.{recordInRange}
+use Rattle.machine.specs.Memory.{Memory, marksNeeded, recordOf, stateOf, turnsIn, xInRange, markInRange, outOf}
 use Rattle.machine.specs.Refusals.{Case, when, first, rowShort, oneTimeRelease, wrongMoment, moment, tooManyOut}
-use Rattle.machine.specs.promises.Ranges.{WithinLimits, NeedsMore, PointWithin, StateWithin, BadAt, seeksOrHolds}
-use Rattle.machine.specs.promises.Refusing.{SomeRowShort, OfIdle, OfSeeking, OfHolding, SomeBusy, tasksOut}
+use Rattle.machine.specs.promises.Ranges.{WithinLimits, NeedsMore, PointWithin, StateWithin, TurnsWithin, BadAt}
+use Rattle.machine.specs.promises.Ranges.{seeksOrHolds}
+use Rattle.machine.specs.promises.Refusing.{SomeRowShort, OfIdle, OfSeeking, OfHolding, tasksOut}
 use Rattle.machine.specs.declared.Settings.{Settings}
 use Rattle.machine.specs.declared.Point.{Point, the-variants.{WriteX, Scan, WriteMark, ReadX, Clear}}
-use Rattle.machine.specs.declared.State.{State, the-variants.{Idle, Seeking, Holding}}
+use Rattle.machine.specs.declared.{State.{State, the-variants.{Idle, Seeking, Holding}}, Record.Record}
 use Rattle.machine.specs.declared.Kind.{Kind, the-variants.{Ask, Turn, Release}}
 use Rattle.machine.specs.declared.Row.{Row, the-variants.{Records, Xs, Marks}}
 use Rattle.machine.specs.declared.Refusal.the-variants.{TaskIdle, TaskSeeks, TaskHolds}
@@ -76,6 +80,11 @@ module _ (s : Settings) (l : WithinLimits s) where
   state-line (Seeking r c point) = both (most (r + c + 2) (s .k)) (point-line point)
   state-line (Holding r c) = most (r + c + 1) (s .k)
 
+  pub turns-line : (state : State) (turns : ℕ) → Tested (turnsInRange s state turns) (TurnsWithin s state turns)
+  turns-line Idle turns = same turns 0
+  turns-line (Seeking r c point) turns = below turns (bound s)
+  turns-line (Holding r c) turns = most turns (bound s)
+
   -- whether the value at an index is in range, in the definitions
   abbrev pub inRangeAt : Memory → Row → ℕ → Bool
   inRangeAt m Records p = recordInRange s (recordOf m p)
@@ -86,7 +95,7 @@ module _ (s : Settings) (l : WithinLimits s) where
   above a b = meaning (fails (most a b)) (λ none. omega arith, λ high low. omega arith)
 
   pub bad-line : (m : Memory) (row : Row) (index : ℕ) → Tested (not (inRangeAt m row index)) (BadAt s m row index)
-  bad-line m Records p = fails (state-line (stateOf m p))
+  bad-line m Records p = fails (both (state-line (stateOf m p)) (turns-line (stateOf m p) (turnsIn m p)))
   bad-line m Xs block = above (getD (m .xs) block 0) (s .n)
   bad-line m Marks index = above (getD (m .marks) index 0) 1
 
@@ -170,8 +179,23 @@ idle-tested Idle = always refl
 idle-tested (Seeking r c point) = never (λ e. let z : _≡_ {A = ℕ} 0 1 = cc in omega arith)
 idle-tested (Holding r c) = never (λ e. let z : _≡_ {A = ℕ} 0 1 = cc in omega arith)
 
-pub busy-line : (s : Settings) (m : Memory) → Tested (ltb 0 (outOf s (m .records))) (SomeBusy s m)
-busy-line s m = some-counted (λ p. isOut (stateOf m p)) (λ p. fails (idle-tested (stateOf m p))) (s .n)
+pub idle-record-tested : (state : State) (turns : ℕ)
+    → Tested (isIdle state && eqb turns 0) (record { state = state; turns = turns } ≡ idle)
+idle-record-tested state turns = meaning (both (idle-tested state) (same turns 0)) (
+  λ (e, zero) i. record { state = e i; turns = zero i },
+  λ e. (ap (λ (r : Record). r .state) e, ap (λ (r : Record). r .turns) e),
+)
+
+pub out-tested : (s : Settings) (m : Memory)
+    → Tested (ltb 0 (outOf s (m .records))) ((p : ℕ) × (p < s .n) × (stateOf m p ≡ Idle → ⊥))
+out-tested s m = some-counted (λ p. isOut (stateOf m p)) (λ p. fails (idle-tested (stateOf m p))) (s .n)
+
+-- a record that is not idle is of a task that is out, or out of range
+pub busy-how : (s : Settings) (state : State) (turns : ℕ) → (record { state = state; turns = turns } ≡ idle → ⊥)
+    → (state ≡ Idle → ⊥) ⊎ (StateWithin s state × TurnsWithin s state turns → ⊥)
+busy-how s Idle turns other = inr (λ (w, zero). other (λ i. record { state = Idle; turns = zero i }))
+busy-how s (Seeking r c point) turns other = inl (λ e. let z : _≡_ {A = ℕ} 0 1 = cc in omega arith)
+busy-how s (Holding r c) turns other = inl (λ e. let z : _≡_ {A = ℕ} 0 1 = cc in omega arith)
 
 -- 7
 out-same : (state : State) → isOut state ≡ seeksOrHolds state

@@ -5,10 +5,11 @@ use native.Mathlib.{Omega.arith, Nat.le-refl}
 use Prim.Native.Nat.{ℕ, _≤_, _<_}
 use lib.{Dec.{T, ltb}, ListN.{length, getD}}
 use borrow.Author.Tests.{le-ltb}
-use Rattle.counting.proofs.{Tested.{Tested, below, either, passes, misses}, Searching.none-bad}
-use Rattle.machine.specs.{Places.blocks, Records.recordInRange}
-use Rattle.machine.specs.Memory.{Memory, marksNeeded, recordOf, stateOf, xInRange, markInRange, badRecord, badX}
-use Rattle.machine.specs.Memory.{badMark, outOf, viewOf}
+use Rattle.counting.proofs.{Bools.and-in, Tested.{Tested, below, either, passes, misses}, Searching.none-bad}
+use Rattle.machine.specs.{Places.blocks, Records.{stateInRange, turnsInRange, recordInRange}}
+use Rattle.machine.specs.Memory.{Memory, marksNeeded, recordOf, stateOf, turnsIn, xInRange, markInRange}
+use Rattle.machine.specs.Memory.{badRecord}
+use Rattle.machine.specs.Memory.{badX, badMark, outOf, viewOf}
 use Rattle.machine.specs.Refusals.{first, rowShort, oneTimeRelease, wrongMoment, tooManyOut, taskCases}
 use Rattle.machine.specs.{Calls.verdictOf, promises.Ranges.WithinLimits}
 use Rattle.machine.specs.declared.{Settings.Settings, Event.Event}
@@ -22,9 +23,16 @@ pub record Long (s : Settings) (count : ℕ) (m : Memory) : Type 0 where
 
 -- what it holds is in range
 pub record InRange (s : Settings) (m : Memory) : Type 0 where
-  pub records : (p : ℕ) → p < s .n → T (recordInRange s (recordOf m p))
+  pub records : (p : ℕ) → p < s .n → T (stateInRange s (stateOf m p))
+  pub turns : (p : ℕ) → p < s .n → T (turnsInRange s (stateOf m p) (turnsIn m p))
   pub xs : (block : ℕ) → block < blocks s → T (xInRange s (getD (m .xs) block 0))
   pub marks : (index : ℕ) → index < marksNeeded s → T (markInRange (getD (m .marks) index 0))
+
+-- a record in range, by its two parts
+pub record-in-range : (s : Settings) (m : Memory) → InRange s m → (p : ℕ) → p < s .n
+    → T (recordInRange s (recordOf m p))
+record-in-range s m h p l =
+    and-in (stateInRange s (stateOf m p)) (turnsInRange s (stateOf m p) (turnsIn m p)) (h .records p l) (h .turns p l)
 
 -- J0: both, so that tests 2 and 3 pass
 pub record Fit (s : Settings) (m : Memory) : Type 0 where
@@ -78,7 +86,7 @@ fit-verdict s m event l fit =
     rw (
       passes (limits-tested s) l,
       none-short s m fit,
-      none-below (s .n) (badRecord s (m .records)) (none-bad _ (s .n) (fit .in-range .records)),
+      none-below (s .n) (badRecord s (m .records)) (none-bad _ (s .n) (record-in-range s m (fit .in-range))),
       none-below (blocks s) (badX s (m .xs)) (none-bad _ (blocks s) (fit .in-range .xs)),
       none-below (marksNeeded s) (badMark s (m .marks)) (none-bad _ (marksNeeded s) (fit .in-range .marks)),
     )

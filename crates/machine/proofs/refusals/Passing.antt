@@ -3,7 +3,8 @@ use mathlib.Core.{Path.{_≡_, refl}, Logic.{inl, inr}, Bool.{Bool, true, false,
 use Prim.Native.Nat.{ℕ, _<_}
 use native.Mathlib.Omega.{arith}
 use lib.{Dec.T, ListN.length}
-use Rattle.machine.specs.{Places.blocks, Memory.{Memory, marksNeeded, stateOf}, Answers.isAccepted}
+use Rattle.machine.specs.{Places.blocks, Memory.{Memory, marksNeeded, stateOf, turnsIn}, Answers.isAccepted}
+use Rattle.machine.specs.Records.{stateInRange, turnsInRange}
 use Rattle.machine.specs.Calls.{Outcome, refuseOr, verdictOf, call}
 use Rattle.machine.specs.declared.{Settings.Settings, Event.Event, Row.{Row, the-variants.{Records, Xs, Marks}}}
 use Rattle.machine.specs.declared.Verdict.{Verdict}
@@ -12,7 +13,7 @@ use Rattle.machine.specs.promises.{Refusing.{NoneHolds, SomeRowShort, ca
 use Rattle.machine.proofs.refusals.Lines.{neededOf, inRangeAt, needs-line, bad-line, release-line, right-moment}
 use Rattle.machine.proofs.refusals.Lines.{out-line}
 use Rattle.machine.proofs.refusals.{Refusing.{accepted-zero, ruled, within, call-refused}, Passed.{Fit, Passed}}
-use Rattle.counting.proofs.Tested.{misses}
+use Rattle.counting.proofs.{Bools.{and-l, and-r}, Tested.misses}
 
 not-not : (b : Bool) → (T (not b) → ⊥) → T b
 not-not true no-fail = tt
@@ -27,7 +28,14 @@ fits s l m long none =
     let marks : length (m .marks) < marksNeeded s → ⊥ = λ h. long (inr (inr (needs-line s l Marks _ .0 h))) in
     record {
       long = record { records = omega arith; xs = omega arith; marks = omega arith };
-      in-range = record { records = in-range-at Records; xs = in-range-at Xs; marks = in-range-at Marks };
+      in-range = record {
+        records = λ p low. and-l (stateInRange s (stateOf m p)) (turnsInRange s (stateOf m p) (turnsIn m p))
+            (in-range-at Records p low);
+        turns = λ p low. and-r (stateInRange s (stateOf m p)) (turnsInRange s (stateOf m p) (turnsIn m p))
+            (in-range-at Records p low);
+        xs = in-range-at Xs;
+        marks = in-range-at Marks;
+      };
     }
   where
     in-range-at : (row : Row) (index : ℕ) → index < neededOf s row → T (inRangeAt s l m row index)

@@ -1,30 +1,32 @@
 -- Each number of refusal is answered exactly when its line is the first that holds, 3 tells the first bad value, and a
 -- refusal changes nothing.
-use mathlib.Core.{Path.{_≡_, refl, sym, subst}, Logic.{inl, inr, _↔_}, Bool.false, List.{List, [], _∷_, _++_}}
+use mathlib.Core.{Path.{_≡_, refl, sym, ap, subst}, Logic.{inl, inr, ⊎-elim, _↔_}, Bool.false}
+use mathlib.Core.List.{List, [], _∷_, _++_}
 use Prim.Native.Nat.{ℕ, _≤_}
 use native.Mathlib.Omega.{arith}
 use lib.{Dec.T, ListN.length}
-use Rattle.machine.specs.Memory.{Memory, stateOf, viewOf}
+use Rattle.machine.specs.Memory.{Memory, stateOf, turnsIn, viewOf}
 use Rattle.machine.specs.Refusals.{Case, when, first, lentCases, rangeCases, taskCases, outsideLimits, rowShort}
 use Rattle.machine.specs.Refusals.{noSuchTask, oneTimeRelease, wrongMoment, moment, tooManyOut, rowBusy}
 use Rattle.machine.specs.Refusals.{setupVerdict}
 use Rattle.machine.specs.Answers.{toldSaid, said, toldAccepted, isAccepted, plain}
 use Rattle.machine.specs.Calls.{Outcome, toldOf, nextState, accept, refuseOr, verdictOf, call, cleared, setup}
-use Rattle.machine.specs.promises.Ranges.{WithinLimits}
+use Rattle.machine.specs.promises.Ranges.{WithinLimits, StateWithin, TurnsWithin}
 use Rattle.machine.specs.promises.Refusing.{Line, line, FirstHolds, RefusedExactly, SomeBusy, taskLines}
 use Rattle.machine.specs.promises.Refusing.{lentLines, rangeLines, setupLines, callLines, TellsFirstBad}
 use Rattle.machine.specs.promises.Refusing.{in-records, in-xs, in-marks}
 use Rattle.machine.specs.promises.Refusing.{callSays, setupSays, CallRefused, RefusalExact, RefusedChangesNothing}
 use Rattle.machine.specs.declared.{Settings.Settings, State.{State, the-variants.{Idle, Seeking, Holding}}}
+use Rattle.machine.specs.declared.Record.{Record}
 use Rattle.machine.specs.declared.{Kind.{Kind, the-variants.{Ask, Turn, Release}}, Event.Event}
 use Rattle.machine.specs.declared.{Row.the-variants.{Records, Xs, Marks}, View.View, Verdict.Verdict}
 use Rattle.machine.specs.declared.Refusal.the-variants.{BusyRow, NoSuchTask, OneTime, TooManyOut}
 use Rattle.machine.specs.declared.Told.{Told, the-variants.{Done, Seeks, Holds, Freed, Refused}}
 use Rattle.machine.specs.declared.{Shown.the-variants.Nothing, Answer.Answer}
-use Rattle.counting.proofs.Tested.{most, fails, passes, misses, cannot-fail}
+use Rattle.counting.proofs.Tested.{Tested, most, either, fails, meaning, passes, misses, cannot-fail}
 use Rattle.machine.proofs.refusals.Limits.{limits-tested}
 use Rattle.machine.proofs.refusals.Lines.{short-line, release-line, idle-line, seeking-line, holding-line}
-use Rattle.machine.proofs.refusals.Lines.{busy-line, out-line}
+use Rattle.machine.proofs.refusals.Lines.{out-tested, busy-how, out-line}
 use Rattle.machine.proofs.refusals.Lines.{momentCases, moment-as-three}
 use Rattle.machine.proofs.refusals.BadValue.{found-line, first-found}
 use Rattle.machine.proofs.refusals.Deciding.{refusal-says, decide-alike, not-first, Are, refused-exactly}
@@ -192,12 +194,27 @@ module _ (s : Settings) (event : Event) (m : Memory) where
 
 -- ---- setup
 
+-- 18: a record of the N is other than idle
+busy-line : (s : Settings) → WithinLimits s → (m : Memory)
+    → Tested (rowBusy s (viewOf s (m .records) 0)) (SomeBusy s m)
+busy-line s l m = meaning (either (out-tested s m) (found-line s l m Records)) (
+  ⊎-elim (λ (p, low, out). (p, low, λ e. out (ap (λ (r : Record). r .state) e)))
+      (λ (p, (low, bad)). (
+        p,
+        low,
+        λ e. bad (subst
+            (λ (r : Record). StateWithin s (r .state) × TurnsWithin s (r .state) (r .turns)) (sym e) (tt, refl)),
+      )),
+  λ (p, low, other). ⊎-elim (λ out. inl (p, low, out)) (λ bad. inr (p, (low, bad)))
+      (busy-how s (stateOf m p) (turnsIn m p) other),
+)
+
 pub setup-exactly : (s : Settings) (m : Memory) → RefusedExactly (setupSays s m) (setupLines s m)
 setup-exactly s m =
     refused-exactly (λ v. said (refuseOr v m (started s m) .answer)) refl (λ why. refl)
-    (lentCases s (viewOf s (m .records) 0) m (when (rowBusy (viewOf s (m .records) 0)) BusyRow ∷ [])) (setupLines s m)
-    (lent-are s 0 m (when (rowBusy (viewOf s (m .records) 0)) BusyRow ∷ []) (line 18 (SomeBusy s m) ∷ [])
-    (λ l. (record { numbered = refl; tested = busy-line s m }, λ idle. tt)))
+    (lentCases s (viewOf s (m .records) 0) m (when (rowBusy s (viewOf s (m .records) 0)) BusyRow ∷ [])) (setupLines s m)
+    (lent-are s 0 m (when (rowBusy s (viewOf s (m .records) 0)) BusyRow ∷ []) (line 18 (SomeBusy s m) ∷ [])
+    (λ l. (record { numbered = refl; tested = busy-line s l m }, λ idle. tt)))
 
 -- ---- and shows no access
 

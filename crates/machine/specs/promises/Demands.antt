@@ -1,12 +1,15 @@
 -- 00, demand 3: "Take an accepted setup, then any calls but setup, all with its settings and on its memory, which
 -- nothing else touches." The calls are any list of asks, turns and releases, of any task numbers, the refused ones
 -- included.
-use mathlib.Core.{Path._≡_, Bool.{Bool, true, cond, _&&_}, List.{List, [], _∷_, _++_}}
+use mathlib.Core.{Path._≡_, Logic._⊎_, Bool.{Bool, true, cond, _&&_}, List.{List, [], _∷_, _++_}}
 use Prim.Native.Nat.{ℕ, _+_, _-_, _*_, _/_, _≤_, _<_}
 use lib.Dec.{T, eqb}
-use Rattle.machine.specs.{Places.nameNumber, Records.{isSeeking, isHolding}, Memory.{Memory, stateOf, largest}}
+use Rattle.machine.specs.Settings.{bound}
+use Rattle.machine.specs.{Places.nameNumber, Records.{isSeeking, isHolding}}
+use Rattle.machine.specs.Memory.{Memory, stateOf, turnsIn, largest}
 use Rattle.machine.specs.{Answers.{said, Tells, isAccepted, plain}, Calls.{nameAt, call, setup, turn, release}}
-use Rattle.machine.specs.{promises.Ranges.WithinLimits, History.{run, Answered, history, turnsOf, turns}}
+use Rattle.machine.specs.promises.Ranges.{WithinLimits, TurnsWithin}
+use Rattle.machine.specs.History.{run, Answered, history, turnsOf, turns}
 use Rattle.machine.specs.declared.{Settings.Settings, State.{State, the-variants.{Idle, Seeking, Holding}}}
 use Rattle.machine.specs.declared.{Event.Event, Told.Told, Answer.Answer}
 
@@ -56,10 +59,6 @@ TrueOf s Idle (Told.Freed name) = Unit {0}
 TrueOf s Idle (Told.Refused why) = ⊥
 TrueOf s (Seeking r c point) told = told ≡ Told.Seeks
 TrueOf s (Holding r c) told = told ≡ Told.Holds (nameAt s r c)
-
--- the most own turns that an acquisition takes: (N+4)(k-1) long-lived, 4(k-1) one-time
-abbrev pub bound : Settings → ℕ
-bound s = cond (eqb (s .mode) 0) 4 (s .n + 4) * (s .k - 1)
 
 -- ---- the statements
 
@@ -114,6 +113,18 @@ pub record Served (s : Settings) (lent : Memory) (events : List Event) (p : ℕ)
 abbrev pub ServedWithin : Type 0
 ServedWithin =
     (s : Settings) (lent : Memory) (events : List Event) → SetUp s lent → (p : ℕ) → p < s .n → Served s lent events p
+
+-- 02, P7: "The figure equals the turns counted in the history since that ask": in the record of every task that is out
+-- stand the turns that it has used, and the figure of no record leaves its range
+pub record TurnsTold (s : Settings) (lent : Memory) (events : List Event) (p : ℕ) : Type 0 where
+  pub counted : Seeks (memoryAfter s lent events) p ⊎ HoldsSome (memoryAfter s lent events) p
+      → turnsIn (memoryAfter s lent events) p ≡ used s lent events p
+  pub in-range : TurnsWithin s (stateOf (memoryAfter s lent events) p) (turnsIn (memoryAfter s lent events) p)
+
+abbrev pub EachTurnsTold : Type 0
+EachTurnsTold =
+    (s : Settings) (lent : Memory) (events : List Event) → SetUp s lent → (p : ℕ) → p < s .n
+    → TurnsTold s lent events p
 
 -- no call of a history is refused
 abbrev pub allAccepted : List Answered → Bool

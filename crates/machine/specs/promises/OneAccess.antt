@@ -7,7 +7,7 @@ use Prim.Native.Nat.{ℕ, _+_, _≤_, _<_}
 use lib.{Dec.T, ListN.{length, getD}}
 use Rattle.machine.specs.{Settings.{width, own}, Places.{blocks, blockNumber}}
 use Rattle.machine.specs.{Memory.{Memory, marksNeeded, markIndex, recordOf, stateOf, content}, Turn.access}
-use Rattle.machine.specs.{Answers.isAccepted, Calls.{nextState, call}}
+use Rattle.machine.specs.{Answers.isAccepted, Calls.{recordAfter, call}}
 use Rattle.machine.specs.promises.Ranges.{WithinLimits, StateWithin}
 use Rattle.machine.specs.declared.{Settings.Settings, Point.Point, State.{State, the-variants.{Seeking, Holding}}}
 use Rattle.machine.specs.declared.{Register.{Register, the-variants.{X, Mark}}, Op.the-variants.{Read, Write}}
@@ -136,7 +136,8 @@ pub record WrittenChanges (s : Settings) (event : Event) (m after : Memory) : Ty
   pub marks : ChangesOnly (WritesMark s (accessOf s event m)) (m .marks) (after .marks)
   pub written : HasWritten s (accessOf s event m) after
   pub records : ChangesOnly (λ q. q ≡ event .task .0) (m .records) (after .records)
-  pub own : stateOf after (event .task .0) ≡ nextState s (event .kind) (event .task .0) (stateOf m (event .task .0)) m
+  pub own : recordOf after (event .task .0)
+      ≡ recordAfter s (event .kind) (event .task .0) (stateOf m (event .task .0)) m
 
 abbrev pub OnlyTheRegisterWrittenChanges : Type 0
 OnlyTheRegisterWrittenChanges =

@@ -4,7 +4,7 @@
 use mathlib.Core.{Path._≡_, Logic._⊎_, Bool.{Bool, true, false}}
 use Prim.Native.Nat.{ℕ, _+_, _-_, _*_, _/_, _≤_, _<_}
 use lib.ListN.{getD}
-use Rattle.machine.specs.Memory.{Memory, stateOf}
+use Rattle.machine.specs.{Settings.bound, Memory.{Memory, stateOf, turnsIn}}
 use Rattle.machine.specs.declared.Settings.{Settings}
 use Rattle.machine.specs.declared.Point.{Point, the-variants.{WriteX, Scan, WriteMark, ReadX, Clear}}
 use Rattle.machine.specs.declared.State.{State, the-variants.{Idle, Seeking, Holding}}
@@ -43,9 +43,16 @@ StateWithin s Idle = Unit {0}
 StateWithin s (Seeking r c point) = (r + c + 2 ≤ s .k) × PointWithin s point
 StateWithin s (Holding r c) = r + c + 1 ≤ s .k
 
+-- 02, P7: "A seeking or holding record carries the accepted turns since its ask"; "In a seeking record a figure at or
+-- above demand 3's bound is out of range, in a holding one a figure above it". An idle record has none
+abbrev pub TurnsWithin : Settings → State → ℕ → Type 0
+TurnsWithin s Idle turns = turns ≡ 0
+TurnsWithin s (Seeking r c point) turns = turns < bound s
+TurnsWithin s (Holding r c) turns = turns ≤ bound s
+
 -- "Any other value is out of range, as is an X above N or a mark above 1"
 abbrev pub BadAt : Settings → Memory → Row → ℕ → Type 0
-BadAt s m Records p = StateWithin s (stateOf m p) → ⊥
+BadAt s m Records p = StateWithin s (stateOf m p) × TurnsWithin s (stateOf m p) (turnsIn m p) → ⊥
 BadAt s m Xs block = s .n < getD (m .xs) block 0
 BadAt s m Marks index = 1 < getD (m .marks) index 0
 

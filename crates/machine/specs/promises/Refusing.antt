@@ -4,7 +4,7 @@
 use mathlib.Core.{Path._≡_, Logic.{_⊎_, _↔_}, List.{List, [], _∷_}}
 use Prim.Native.Nat.{ℕ, _≤_, _<_}
 use lib.{Dec.T, ListN.length}
-use Rattle.machine.specs.{Settings.width, Memory.{Memory, markIndex, stateOf}}
+use Rattle.machine.specs.{Settings.width, Records.idle, Memory.{Memory, markIndex, recordOf, stateOf}}
 use Rattle.machine.specs.{Answers.{Said, said, numberOf, isAccepted, plain}, Calls.{call, setup}}
 use Rattle.machine.specs.promises.Ranges.{WithinLimits, NeedsMore, OutOfRangeAt, SomeOutOfRange, seeksOrHolds}
 use Rattle.machine.specs.declared.{Settings.Settings, Point.Point}
@@ -74,7 +74,7 @@ tasksOut s m = count (λ p. seeksOrHolds (stateOf m p)) (s .n)
 
 -- 02, P4: "when any of the first N records is other than idle", a record out of range included
 abbrev pub SomeBusy : Settings → Memory → Type 0
-SomeBusy s m = (p : ℕ) × (p < s .n) × (stateOf m p ≡ Idle → ⊥)
+SomeBusy s m = (p : ℕ) × (p < s .n) × (recordOf m p ≡ idle → ⊥)
 
 -- 1 and 2: what is lent
 abbrev pub lentLines : Settings → Memory → List Line → List Line

@@ -3,7 +3,9 @@
 -- without them, so that demand 3 goes on over it. Theorem: `setups-among-calls`.
 use mathlib.Core.{Path._≡_, List.{List, [], _∷_}}
 use Prim.Native.Nat.{ℕ, _≤_, _<_}
-use Rattle.machine.specs.{Memory.{Memory, stateOf}, Calls.{call, setup}, History.{Answered, history, run}}
+use Rattle.machine.specs.Records.{idle}
+use Rattle.machine.specs.{Memory.{Memory, recordOf, stateOf}, Calls.{call, setup}}
+use Rattle.machine.specs.History.{Answered, history, run}
 use Rattle.machine.specs.promises.{Refusing.setupSays, Demands.{SetUp, memoryAfter}}
 use Rattle.machine.specs.declared.{Settings.Settings, State.the-variants.Idle, Event.Event}
 
@@ -43,7 +45,7 @@ pub record SetupsAmongCalls : Type 0 where
       → (setupSays s (memoryAfter s lent events) .number ≡ 18)
       × (setup s (memoryAfter s lent events) .memory ≡ memoryAfter s lent events)
   -- and whatever the memory and the settings: no setup is accepted over a record of theirs that is not idle
-  pub never-over-busy : (t : Settings) (m : Memory) (p : ℕ) → p < t .n → (stateOf m p ≡ Idle → ⊥)
+  pub never-over-busy : (t : Settings) (m : Memory) (p : ℕ) → p < t .n → (recordOf m p ≡ idle → ⊥)
       → (1 ≤ setupSays t m .number) × (setup t m .memory ≡ m)
   -- with refused setups dropped, every call has the same answer and the memory is the same
   pub dropped : (s : Settings) (acts : List Act) (m : Memory) → SetupsRefused s acts m

@@ -1,29 +1,23 @@
--- The test of a record is the definition's `recordInRange`, in each arm by the law of that state (`States`).
-use mathlib.Core.Path.{_∙_, refl}
-use native.Mathlib.Omega.{arith}
+-- The test of a record is the definition's `recordInRange`: its state, and then its turns.
+use mathlib.Core.{Path.{_≡_, sym, _∙_}, Bool.{true, false}}
+use borrow.Author.Tests.{not-true, not-false}
+use Rattle.machine.specs.Records.{stateInRange}
 use Rattle.machine.proofs.Tests.{tests}
-use Rattle.ranges.proofs.{States.{seeks-off-blocks, seeks-by-point}, in_range.Statement.statement}
+use Rattle.ranges.proofs.in_range.Statement.{statement}
 use Rattle.ranges.proofs.in_range.Tie as tie
 
 returns : tie.Need-returns
 returns c =
-    let known = c .before .before .before in
-    let state = known .state .given in
-    rw (state .1) (seeks-off-blocks (known .before .before .args .s) _ _ (state .0 .1 .1 .0) (omega arith))
+    let a = c .before .before .args in
+    let off : stateInRange (a .s) (a .this .state) ≡ false = sym (c .before .state-in-range .ensures) ∙ not-true _ (c .if1 .taken) in
+    rw off
 
-returns-3 : tie.Need-returns-3
-returns-3 c =
-    let known = c .before .before .before .before in
-    let state = known .state .given in
-    rw (state .1)
-    (c .point-in-range .ensures ∙ seeks-by-point (known .before .before .args .s) _ _ (state .0 .1 .1 .0) (omega arith))
-
-returns-4 : tie.Need-returns-4
-returns-4 c = rw (c .before .before .state2 .given .1) refl
+returns-2 : tie.Need-returns-2
+returns-2 c =
+    let at = c .before in
+    let a = at .before .before .args in
+    let on : stateInRange (a .s) (a .this .state) ≡ true = sym (at .before .state-in-range .ensures) ∙ not-false _ (at .if1 .left) in
+    rw on (c .turns-in-range .ensures)
 
 pub in-range-spec : {M : Type 1} → statement M
-in-range-spec =
-    tie.close (tie.spec (λ c. search tests) (λ c. search tests) (λ c. search tests) (λ c. search tests)
-    (λ c. search tests) (λ c. search tests) (λ c. search tests) returns (λ c κs. search tests)
-    (λ c. search tests) (λ c. search tests) (λ c. search tests) (λ c. search tests) (λ c. search tests)
-    (λ c. search tests) (λ c. search tests) returns-3 returns-4)
+in-range-spec = tie.close (tie.spec (λ c κs. search tests) returns (λ c κs. search tests) returns-2)

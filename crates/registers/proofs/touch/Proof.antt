@@ -56,8 +56,7 @@ touch-mark-requires : tie.Need-touch-mark-requires
 touch-mark-requires c κs =
     let known = c .before .before in
     let start = startMark known in
-    let within = is-needed (start .args .s) _ _ _ (mark-is known) (start .pre .1) in
-    (
+    let within = is-needed (start .args .s) _ _ _ (mark-is known) (start .pre .1) in (
       omega (arith, start .pre .4, c .mark-index .ensures, within .2),
       is-small (start .args .s) _ _ _ _ (mark-is known) (start .pre .2),
     )

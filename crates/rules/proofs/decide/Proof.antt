@@ -28,7 +28,7 @@ passed : (c : tie.After-enum-told)
 passed c = seen-passed _ _ _ _ (registers (start c)) (start c .pre) (accepted c)
 
 access-requires : tie.Need-access-requires
-access-requires c κs = (passed c .limits, passed c .own-in-range)
+access-requires c κs = (passed c .limits, passed c .state-good)
 
 touch-requires : tie.Need-touch-requires
 touch-requires c κs =
@@ -46,7 +46,7 @@ told-requires c κs =
     let touched = c .before .before .before .before .before in
     let ok = passed (touched .before .before .before .before) in
     let access = touched .before .before .before .access .ensures in
-    (ok .limits, ok .own-in-range, next-in-range ok _ access _ _ _ (touched .touch .ensures) (c .next .ensures))
+    (ok .limits, ok .state-good, next-in-range ok _ access _ _ _ (touched .touch .ensures) (c .next .ensures))
 
 returns : tie.Need-returns
 returns c =

@@ -24,7 +24,7 @@ accepted c = sym (c .before .before .setup-verdict .ensures) ∙ c .enum-told .g
 passed : (c : tie.After-enum-told) → LentPassed (start c .args .s) (start c .args .seen) (registers (start c))
 passed c =
     lent-passes (start c .args .s) (start c .args .seen) (registers (start c))
-    (when (rowBusy (start c .args .seen)) Refusal.BusyRow ∷ []) (accepted c)
+    (when (rowBusy (start c .args .s) (start c .args .seen)) Refusal.BusyRow ∷ []) (accepted c)
 
 blocks-requires : tie.Need-blocks-requires
 blocks-requires c κs = passed (c .before) .limits

@@ -1,6 +1,5 @@
 -- `setup_verdict` is the definition's, by its two parts: what is lent, and the records, which must be idle.
-use mathlib.Core.{Path.{_≡_, _∙_, sym}, List.{[], _∷_}}
-use borrow.Author.Tests.{lt-ltb, le-ltb}
+use mathlib.Core.{Path.{_≡_, _∙_, sym}, Bool.{true, false}, List.{[], _∷_}}
 use denote.Ref.{now}
 use Rattle.machine.specs.{Memory.Memory, Refusals.{when, first, rowBusy, lentCases, setupVerdict}}
 use Rattle.machine.specs.declared.{Refusal.Refusal, Verdict.Verdict}
@@ -23,13 +22,15 @@ lent-accepted : (c : tie.After-enum-told) → lent (start c) ≡ Verdict.Accepte
 lent-accepted c = sym (c .before .before .lent-verdict .ensures) ∙ c .enum-told .given .1
 
 parts : (c : tie.Start) → setupVerdict (c .args .s) (c .args .seen) (registers c)
-    ≡ then (lent c) (first (when (rowBusy (c .args .seen)) Refusal.BusyRow ∷ []))
+    ≡ then (lent c) (first (when (rowBusy (c .args .s) (c .args .seen)) Refusal.BusyRow ∷ []))
 parts c = setup-parts (c .args .s) (c .args .seen) (registers c)
 
 returns : tie.Need-returns
 returns c =
     let told = c .before .before in
-    rw (parts (start told), lent-accepted told, lt-ltb 0 (start told .args .seen .out) (c .if1 .taken))
+    let busy : rowBusy (start told .args .s) (start told .args .seen) ≡ true =
+    sym (c .before .row-busy .ensures) ∙ c .if1 .taken in
+    rw (parts (start told), lent-accepted told, busy)
 
 returns-2 : tie.Need-returns-2
 returns-2 c =
@@ -41,9 +42,12 @@ returns-2 c =
 returns-3 : tie.Need-returns-3
 returns-3 c =
     let told = c .before .before in
-    rw (parts (start told), lent-accepted told, le-ltb 0 (start told .args .seen .out) (c .if1 .left))
+    let none : rowBusy (start told .args .s) (start told .args .seen) ≡ false =
+    sym (c .before .row-busy .ensures) ∙ c .if1 .left in
+    rw (parts (start told), lent-accepted told, none)
 
 pub setup-verdict-spec : {M : Type 1} → statement M
 setup-verdict-spec =
     tie.close
-    (tie.spec (λ c κs. search tests) (λ c. search tests) (λ c. search tests) returns returns-2 returns-3)
+    (tie.spec (λ c κs. search tests) (λ c. search tests) (λ c. search tests) (λ c κs. search tests) returns returns-2
+    returns-3)

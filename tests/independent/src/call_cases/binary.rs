@@ -11,15 +11,15 @@
 //! bytes 9-10    how many records are lent
 //! bytes 11-12   how many X numbers
 //! bytes 13-14   how many marks
-//! then 6 bytes a record: state (0 idle, 1 seeking, 2 holding), r, c, point (0 write X, 1 scan,
+//! then 10 bytes a record: state (0 idle, 1 seeking, 2 holding), r, c, point (0 write X, 1 scan,
 //!               2 write mark, 3 read X, 4 clear going right, 5 clear going down), the scan's place
-//!               in 2 bytes; what a record has not is 0
+//!               in 2 bytes, the figure in 4; what a record has not is 0
 //! then 4 bytes an X number, then 1 byte a mark
 //! ```
 
 use super::{Call, CallCase};
 use crate::calls::Memory;
-use crate::grid::{Direction, Place, Point, Record, Registers, Settings};
+use crate::grid::{Direction, Place, Point, Record, Registers, Settings, State};
 
 /// The longest input of a program.
 pub const MOST_BYTES: usize = 65_536;
@@ -51,11 +51,15 @@ pub fn pack(case: &CallCase) -> Vec<u8> {
     bytes
 }
 
-fn pack_record(record: Record) -> [u8; 6] {
-    match record {
-        Record::Idle => [0; 6],
-        Record::Holding(Place { r, c }) => [2, r, c, 0, 0, 0],
-        Record::Seeking(Place { r, c }, point) => {
+fn pack_record(Record { state, figure }: Record) -> impl Iterator<Item = u8> {
+    pack_state(state).into_iter().chain(figure.to_le_bytes())
+}
+
+fn pack_state(state: State) -> [u8; 6] {
+    match state {
+        State::Idle => [0; 6],
+        State::Holding(Place { r, c }) => [2, r, c, 0, 0, 0],
+        State::Seeking(Place { r, c }, point) => {
             let (point, h) = match point {
                 Point::WriteX => (0, 0),
                 Point::Scan(h) => (1, h),
@@ -119,12 +123,17 @@ impl Bytes<'_> {
     }
 
     fn record(&mut self) -> Option<Record> {
+        let state = self.state()?;
+        Some(state.after(self.take().map(u32::from_le_bytes)?))
+    }
+
+    fn state(&mut self) -> Option<State> {
         let [state, r, c, point, low, high] = self.take()?;
         let place = Place { r, c };
         match state {
-            0 => return Some(Record::Idle),
+            0 => return Some(State::Idle),
             1 => {}
-            2 => return Some(Record::Holding(place)),
+            2 => return Some(State::Holding(place)),
             _ => return None,
         }
         let point = match point {
@@ -136,6 +145,6 @@ impl Bytes<'_> {
             5 => Point::Clear(Direction::Down),
             _ => return None,
         };
-        Some(Record::Seeking(place, point))
+        Some(State::Seeking(place, point))
     }
 }

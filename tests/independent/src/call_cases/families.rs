@@ -3,7 +3,7 @@
 use super::memories::{blocks, places};
 use super::{Call, CallCase};
 use crate::calls::Memory;
-use crate::grid::{x_of, Direction, Place, Point, Record, Settings};
+use crate::grid::{x_of, Direction, Place, Point, Record, Settings, State};
 use crate::random::Random;
 use crate::refusal::Row;
 use crate::rules::{Grid, Rules};
@@ -44,6 +44,8 @@ impl Maker {
         self.edge_holders(settings);
         self.names(settings);
         self.moments(settings);
+        self.figures(settings);
+        self.carried_figures(settings);
         self.asks(settings);
         self.many_out(settings);
         self.greatest_values(settings);
@@ -67,7 +69,8 @@ impl Maker {
             let p = self.random.task(settings);
             for point in self.random.points_of(settings, p) {
                 let mut memory = self.random.memory(settings);
-                memory.records[usize::from(p)] = Record::Seeking(place, point);
+                memory.records[usize::from(p)] =
+                    self.random.figured(settings, State::Seeking(place, point));
                 self.push("point", settings, &memory, Call::Turn(p));
                 for value in [0, 1] {
                     self.touch("point", settings, &mut memory, p, value);
@@ -88,7 +91,8 @@ impl Maker {
             };
             for point in points {
                 let mut memory = self.random.memory(settings);
-                memory.records[usize::from(p)] = Record::Seeking(place, point);
+                memory.records[usize::from(p)] =
+                    self.random.figured(settings, State::Seeking(place, point));
                 let value = self.random.pick(&[0, 1]);
                 self.touch("every block", settings, &mut memory, p, value);
             }
@@ -105,7 +109,7 @@ impl Maker {
         p: u16,
         value: u8,
     ) {
-        let Record::Seeking(place, point) = memory.records[usize::from(p)] else {
+        let State::Seeking(place, point) = memory.records[usize::from(p)].state else {
             return;
         };
         let block = settings.block(place);
@@ -131,9 +135,9 @@ impl Maker {
         for p in self.random.positions(settings.tasks()) {
             let place = self.random.pick(&blocks);
             let mut memory = self.random.memory(settings);
-            memory.records[p] = Record::Seeking(place, Point::WriteX);
+            memory.records[p] = self.random.figured(settings, State::Seeking(place, Point::WriteX));
             self.push("own X", settings, &memory, Call::Turn(p as u16));
-            memory.records[p] = Record::Seeking(place, Point::ReadX);
+            memory.records[p] = self.random.figured(settings, State::Seeking(place, Point::ReadX));
             let own = x_of(p);
             let near = [0, own - 1, own, own + 1];
             for x in near.into_iter().filter(|x| *x <= u32::from(settings.n)) {
@@ -155,17 +159,18 @@ impl Maker {
             let place = self.random.pick(&blocks);
             let task = p as u16;
             let mut memory = self.random.memory(settings);
-            memory.records[p] = Record::Seeking(place, Point::Scan(task));
+            memory.records[p] =
+                self.random.figured(settings, State::Seeking(place, Point::Scan(task)));
             for (own, others) in [(1, 0), (1, 1), (0, 1)] {
                 memory.registers.marks.fill(others);
                 memory.registers.marks[Grid.mark(settings, settings.block(place), p)] = own;
                 self.push("own mark", settings, &memory, Call::Turn(task));
             }
             for (point, value) in [(Point::WriteMark, 0), (clears[0], 1), (clears[1], 1)] {
-                memory.records[p] = Record::Seeking(place, point);
+                memory.records[p] = self.random.figured(settings, State::Seeking(place, point));
                 self.touch("own mark", settings, &mut memory, task, value);
             }
-            memory.records[p] = Record::Holding(place);
+            memory.records[p] = self.random.figured(settings, State::Holding(place));
             memory.registers.marks.fill(1);
             self.push("own mark", settings, &memory, Call::Release(task));
         }
@@ -175,7 +180,8 @@ impl Maker {
     fn greatest_values(&mut self, settings: Settings) {
         let mut memory = Memory::idle(&Grid, settings);
         let edge = settings.k - 1;
-        memory.records.fill(Record::Holding(Place { r: edge, c: 0 }));
+        let bound = settings.bound() as u32;
+        memory.records.fill(State::Holding(Place { r: edge, c: 0 }).after(bound));
         memory.registers.x.fill(u32::from(settings.n));
         memory.registers.marks.fill(1);
         let p = settings.n - 1;
@@ -183,8 +189,8 @@ impl Maker {
         let scan = Point::Scan(if settings.long_lived() { p } else { 0 });
         for point in [scan, Point::ReadX] {
             if edge > 0 {
-                memory.records[usize::from(p)] =
-                    Record::Seeking(Place { r: edge - 1, c: 0 }, point);
+                let state = State::Seeking(Place { r: edge - 1, c: 0 }, point);
+                memory.records[usize::from(p)] = state.after(bound - 1);
                 self.push("greatest values", settings, &memory, Call::Turn(p));
             }
         }
@@ -193,18 +199,17 @@ impl Maker {
     /// A record on which the call is accepted, if there is one.
     pub fn ready(&mut self, settings: Settings, call: Call) -> Option<Record> {
         let blocks = blocks(settings);
-        match call {
-            Call::Setup | Call::Ask(_) => Some(Record::Idle),
-            Call::Turn(_) if blocks.is_empty() => None,
+        let state = match call {
+            Call::Setup | Call::Ask(_) => State::Idle,
+            Call::Turn(_) if blocks.is_empty() => return None,
             Call::Turn(p) => {
                 let points = self.random.points_of(settings, p);
-                Some(Record::Seeking(self.random.pick(&blocks), self.random.pick(&points)))
+                State::Seeking(self.random.pick(&blocks), self.random.pick(&points))
             }
-            Call::Release(_) => {
-                let place = self.random.pick(&places(settings.k() - 1));
-                settings.long_lived().then_some(Record::Holding(place))
-            }
-        }
+            Call::Release(_) if !settings.long_lived() => return None,
+            Call::Release(_) => State::Holding(self.random.pick(&places(settings.k() - 1))),
+        };
+        Some(self.random.figured(settings, state))
     }
 
     /// Any memory in range, any call, run on for some calls.
@@ -213,11 +218,11 @@ impl Maker {
             let mut memory = self.random.memory(settings);
             for _ in 0..3 {
                 let p = self.random.task(settings);
-                let call = match memory.records[usize::from(p)] {
+                let call = match memory.records[usize::from(p)].state {
                     _ if self.random.percent(10) => self.random.pick(&calls_of(p)),
-                    Record::Idle => Call::Ask(p),
-                    Record::Seeking(..) => Call::Turn(p),
-                    Record::Holding(_) => Call::Release(p),
+                    State::Idle => Call::Ask(p),
+                    State::Seeking(..) => Call::Turn(p),
+                    State::Holding(_) => Call::Release(p),
                 };
                 self.push("anything", settings, &memory, call);
                 memory = self.cases[self.cases.len() - 1].after.clone();

@@ -6,11 +6,11 @@ use super::families::{all_calls, calls_of, Maker, ROWS};
 use super::memories::bad_records;
 use super::Call;
 use crate::calls::{Memory, Needed};
-use crate::grid::{Place, Record, Settings};
+use crate::grid::{Place, Record, Settings, State};
 use crate::refusal::Row;
 use crate::rules::{Grid, Rules};
 
-const BAD_RECORD: Record = Record::Holding(Place { r: 255, c: 255 });
+const BAD_RECORD: Record = State::Holding(Place { r: 255, c: 255 }).after(0);
 
 impl Maker {
     /// Each row one too short, and empty; also with a bad value, which comes second.

@@ -3,7 +3,7 @@
 use super::families::{calls_of, Maker};
 use super::memories::places;
 use super::Call;
-use crate::grid::{x_of, Direction, Place, Point, Record, Settings};
+use crate::grid::{x_of, Direction, Place, Point, Settings, State};
 
 impl Maker {
     /// Holders at some places, alone and two at one place, with their marks 0 and 1.
@@ -17,7 +17,8 @@ impl Maker {
             for value in [0, 1] {
                 let mut memory = self.random.memory(settings);
                 for task in tasks.iter().take(2) {
-                    memory.records[usize::from(*task)] = Record::Holding(place);
+                    memory.records[usize::from(*task)] =
+                        self.random.figured(settings, State::Holding(place));
                 }
                 memory.registers.marks.fill(value);
                 for call in calls_of(tasks[0]) {
@@ -33,7 +34,7 @@ impl Maker {
         for place in (0..=edge).map(|r| Place { r, c: edge - r }) {
             let p = self.random.task(settings);
             let mut memory = self.random.memory(settings);
-            memory.records[usize::from(p)] = Record::Holding(place);
+            memory.records[usize::from(p)] = self.random.figured(settings, State::Holding(place));
             memory.registers.marks.fill(1);
             self.push("edge holder", settings, &memory, Call::Release(p));
         }
@@ -45,7 +46,8 @@ impl Maker {
             let p = self.random.task(settings);
             let mut memory = self.random.memory(settings);
             if let Some((from, point)) = self.last_turn(settings, place) {
-                memory.records[usize::from(p)] = Record::Seeking(from, point);
+                memory.records[usize::from(p)] =
+                    self.random.figured(settings, State::Seeking(from, point));
                 // The X is the task's own only if that gives the name; the scan meets a mark.
                 let own = u32::from(from == place) * x_of(usize::from(p));
                 memory.registers.x[settings.block(from)] = own;
@@ -53,7 +55,8 @@ impl Maker {
                 self.push("name", settings, &memory, Call::Turn(p));
             }
             if settings.long_lived() {
-                memory.records[usize::from(p)] = Record::Holding(place);
+                memory.records[usize::from(p)] =
+                    self.random.figured(settings, State::Holding(place));
                 self.push("name", settings, &memory, Call::Release(p));
             }
         }

@@ -17,12 +17,13 @@
 //! marks NUMBER ...
 //! ```
 //!
-//! A RECORD is `idle`, `hold/R/C` or `seek/R/C/POINT`; a POINT is `x` (write X), `scan/H`, `mark`
-//! (write mark), `read` (read X), `right` or `down` (clear, going there). ROW is `records`, `x` or
+//! A RECORD is `idle`, `hold/R/C/FIGURE` or `seek/R/C/POINT/FIGURE`, and `idle/FIGURE` where an idle
+//! one has a figure other than 0; a POINT is `x` (write X), `scan/H`, `mark` (write mark), `read`
+//! (read X), `right` or `down` (clear, going there). ROW is `records`, `x` or
 //! `marks`. An ACCESS is as in a listing: `R` or `W`, `X` or `M`, the block, the place among its marks
 //! and the value. Words are parted by one space; an empty row is its first word alone. The last line is
 //! `end NUMBER`, the number of cases. MODE, K, R, C and marks are below 256; N, VERSION, H and
-//! identifiers below 65,536; X below 4,294,967,296.
+//! identifiers below 65,536; X and figures below 4,294,967,296.
 //!
 //! `calls PROGRAM` hands the cases over in the form of `binary`, and the program prints each case's
 //! last four lines, those of its outcome.
@@ -31,6 +32,7 @@ mod binary;
 mod compare;
 mod families;
 mod faults;
+mod figures;
 mod holders;
 mod memories;
 mod moments;
@@ -40,10 +42,11 @@ mod surplus;
 
 use std::fmt::Write;
 
-use crate::calls::{ask, release, setup, turn, Answer, Memory};
-use crate::grid::{Direction, Identifier, Point, Record, Settings};
+use crate::calls::{call as call_of, setup, Answer, Memory};
+use crate::grid::{Direction, Identifier, Point, Record, Settings, State};
 use crate::refusal::Refusal;
 use crate::rules::Rules;
+use crate::schedule::Kind;
 
 pub use binary::{pack, unpack, MOST_BYTES};
 pub use compare::{inputs, run, Plan};
@@ -82,11 +85,14 @@ impl CallCase {
         call: Call,
     ) -> CallCase {
         let mut after = before.clone();
+        let by = |kind, id: u16, after: &mut Memory| {
+            call_of(rules, settings, kind, Identifier(id.into()), after)
+        };
         let answer = match call {
             Call::Setup => setup(rules, settings, &mut after),
-            Call::Ask(id) => ask(rules, settings, Identifier(id.into()), &mut after),
-            Call::Turn(id) => turn(rules, settings, Identifier(id.into()), &mut after),
-            Call::Release(id) => release(rules, settings, Identifier(id.into()), &mut after),
+            Call::Ask(id) => by(Kind::Ask, id, &mut after),
+            Call::Turn(id) => by(Kind::Turn, id, &mut after),
+            Call::Release(id) => by(Kind::Free, id, &mut after),
         };
         CallCase { tries, settings, before, call, answer, after }
     }
@@ -186,11 +192,12 @@ fn write_memory(text: &mut String, memory: &Memory) {
     row(text, "marks", memory.registers.marks.iter().map(|mark| mark.to_string()).collect());
 }
 
-fn record_word(record: Record) -> String {
-    match record {
-        Record::Idle => "idle".to_string(),
-        Record::Holding(place) => format!("hold/{}/{}", place.r, place.c),
-        Record::Seeking(place, point) => {
+fn record_word(Record { state, figure }: Record) -> String {
+    match state {
+        State::Idle if figure == 0 => "idle".to_string(),
+        State::Idle => format!("idle/{figure}"),
+        State::Holding(place) => format!("hold/{}/{}/{figure}", place.r, place.c),
+        State::Seeking(place, point) => {
             let point = match point {
                 Point::WriteX => "x".to_string(),
                 Point::Scan(h) => format!("scan/{h}"),
@@ -199,7 +206,7 @@ fn record_word(record: Record) -> String {
                 Point::Clear(Direction::Right) => "right".to_string(),
                 Point::Clear(Direction::Down) => "down".to_string(),
             };
-            format!("seek/{}/{}/{point}", place.r, place.c)
+            format!("seek/{}/{}/{point}/{figure}", place.r, place.c)
         }
     }
 }

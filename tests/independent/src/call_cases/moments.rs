@@ -4,7 +4,7 @@ use super::families::{calls_of, Maker};
 use super::memories::places;
 use super::{Call, MOST_RECORDS};
 use crate::calls::Memory;
-use crate::grid::{Place, Record, Settings};
+use crate::grid::{Place, Record, Settings, State};
 
 impl Maker {
     /// Every call of an idle, a seeking and a holding task, with none of the others out, with k of
@@ -14,9 +14,10 @@ impl Maker {
             let order = self.any_order(settings);
             let p = order[settings.tasks() - 1];
             let mut memory = self.with_out(settings, &order, others);
-            let holding = Record::Holding(self.random.pick(&places(settings.k() - 1)));
+            let holding = State::Holding(self.random.pick(&places(settings.k() - 1)));
+            let holding = self.random.figured(settings, holding);
             let seeking = self.ready(settings, Call::Turn(p as u16));
-            for record in [Record::Idle, holding].into_iter().chain(seeking) {
+            for record in [Record::IDLE, holding].into_iter().chain(seeking) {
                 memory.records[p] = record;
                 for call in calls_of(p as u16) {
                     self.push("moment", settings, &memory, call);
@@ -31,7 +32,7 @@ impl Maker {
         for out in [0, k - 1, k, k + 1, settings.tasks()] {
             let order = self.any_order(settings);
             let mut memory = self.with_out(settings, &order, out);
-            memory.records.extend([Record::Holding(Place { r: 0, c: 0 }); 2]);
+            memory.records.extend([State::Holding(Place { r: 0, c: 0 }).after(0); 2]);
             memory.records.truncate(MOST_RECORDS);
             for task in [order[0], order[order.len() - 1]] {
                 self.push("ask", settings, &memory, Call::Ask(task as u16));

@@ -4,7 +4,7 @@ use super::families::{Maker, ROWS};
 use super::memories::{bad_records, places};
 use super::Call;
 use crate::calls::Memory;
-use crate::grid::{Record, Settings};
+use crate::grid::{Settings, State};
 use crate::rules::Grid;
 
 impl Maker {
@@ -18,7 +18,8 @@ impl Maker {
         }
         self.push("setup", settings, &memory, Call::Setup);
         for at in self.random.positions(settings.tasks()) {
-            let holding = Record::Holding(self.random.pick(&places(settings.k() - 1)));
+            let holding = State::Holding(self.random.pick(&places(settings.k() - 1)));
+            let holding = self.random.figured(settings, holding);
             let bad = self.random.pick(&bad_records(settings));
             let seeking = self.ready(settings, Call::Turn(at as u16));
             for record in [holding, bad].into_iter().chain(seeking) {

@@ -13,7 +13,7 @@ use crate::refusal::Refusal;
 
 const SEED: u64 = 1;
 
-/// The cases that are stored; of the two refused calls on each memory with a bad value, one.
+/// The cases that are stored; of the many calls that meet bad settings or a bad value, one of seven.
 pub fn cases() -> Vec<CallCase> {
     let mut maker = Maker::new(SEED);
     for mode in [0, 1] {
@@ -27,14 +27,16 @@ pub fn cases() -> Vec<CallCase> {
     }
     maker.bad_settings();
     maker.versions();
-    let mut out_of_range = 0;
+    let (mut settings, mut values) = (0, 0);
     maker.cases.retain(|case| {
-        if !matches!(case.answer, Err(Refusal::OutOfRange { .. })) {
-            return true;
-        }
-        // The call by a task on one memory, the one by an identifier beyond N on the next.
-        out_of_range += 1;
-        matches!(out_of_range % 4, 0 | 1)
+        let met = match case.answer {
+            Err(Refusal::Settings) => &mut settings,
+            Err(Refusal::OutOfRange { .. }) => &mut values,
+            _ => return true,
+        };
+        // Settings come with four calls, bad values at three places with two: so each comes in turn.
+        *met += 1;
+        *met % 7 == 1
     });
     maker.cases
 }
@@ -43,7 +45,7 @@ pub fn cases() -> Vec<CallCase> {
 fn files() -> [(&'static str, Vec<u8>); 2] {
     let cases = cases();
     let stdin: Vec<u8> = cases.iter().flat_map(pack).collect();
-    assert!(stdin.len() <= MOST_BYTES, "the stored cases make one input");
+    assert!(stdin.len() <= MOST_BYTES, "the stored cases make one input, not {}", stdin.len());
     let stdout: String = cases.iter().map(CallCase::outcome).collect();
     [("stdin", stdin), ("stdout", stdout.into_bytes())]
 }

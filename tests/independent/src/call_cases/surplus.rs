@@ -1,11 +1,13 @@
 //! The families of calls on longer rows: the surplus never changes and no answer depends on it.
 
+use super::binary::{pack, MOST_BYTES};
 use super::families::{all_calls, calls_of, Maker, ROWS};
 use super::memories::bad_records;
-use super::{Call, MOST_MARKS, MOST_RECORDS, MOST_X};
+use super::{Call, CallCase, MOST_MARKS, MOST_RECORDS, MOST_X};
 use crate::calls::Memory;
-use crate::grid::{Place, Point, Record, Settings};
+use crate::grid::{Place, Point, Record, Settings, State};
 use crate::refusal::Row;
+use crate::rules::Grid;
 
 impl Maker {
     /// Longer rows with anything in the surplus.
@@ -21,7 +23,7 @@ impl Maker {
             for call in calls_of(p).into_iter().chain(calls_of(settings.n)) {
                 self.push("surplus", settings, &memory, call);
             }
-            memory.records[..settings.tasks()].fill(Record::Idle);
+            memory.records[..settings.tasks()].fill(Record::IDLE);
             self.push("surplus", settings, &memory, Call::Setup);
         }
     }
@@ -35,7 +37,7 @@ impl Maker {
                     continue;
                 };
                 let mut memory = self.random.memory(settings);
-                memory.records.fill(Record::Idle);
+                memory.records.fill(Record::IDLE);
                 memory.records[usize::from(p)] = record;
                 match row {
                     Row::Records if memory.records.len() == MOST_RECORDS => continue,
@@ -57,7 +59,7 @@ impl Maker {
         match row {
             Row::Records if memory.records.len() < MOST_RECORDS => {
                 let mut any = bad_records(settings);
-                any.extend([Record::Idle, Record::Holding(Place { r: 0, c: 0 })]);
+                any.extend([Record::IDLE, State::Holding(Place { r: 0, c: 0 }).after(0)]);
                 memory.records.push(self.random.pick(&any));
             }
             Row::X if x.len() < MOST_X => {
@@ -74,17 +76,25 @@ impl Maker {
     /// settings that need few of their elements.
     pub fn greatest_rows(&mut self) {
         let settings = Settings::new(1, 256, 16);
-        for call in [Call::Turn(255), Call::Setup] {
-            let mut memory = self.random.memory(settings);
-            memory.records[255] = Record::Seeking(Place { r: 14, c: 0 }, Point::Scan(255));
-            if call == Call::Setup {
-                memory.records.fill(Record::Idle);
-            }
-            for _ in 0..17 {
-                self.lengthen(settings, &mut memory, Row::Marks);
-            }
-            self.push("greatest rows", settings, &memory, call);
+        let mut memory = self.random.memory(settings);
+        let scan = State::Seeking(Place { r: 14, c: 0 }, Point::Scan(255));
+        memory.records[255] = self.random.figured(settings, scan);
+        for _ in 0..17 {
+            self.lengthen(settings, &mut memory, Row::Marks);
         }
+        let turn = CallCase::new(&Grid, "greatest rows", settings, memory, Call::Turn(255));
+        let left = MOST_BYTES - pack(&turn).len();
+        self.cases.push(turn);
+
+        let settings = Settings::new(1, 256, 15);
+        let mut memory = Memory::idle(&Grid, settings);
+        memory.registers = self.random.memory(settings).registers;
+        let setup = CallCase::new(&Grid, "", settings, memory.clone(), Call::Setup);
+        for _ in pack(&setup).len()..left {
+            self.lengthen(settings, &mut memory, Row::Marks);
+        }
+        self.push("greatest rows", settings, &memory, Call::Setup);
+
         for settings in [Settings::new(0, 1, 1), Settings::new(1, 2, 2)] {
             let mut memory = self.random.memory(settings);
             for (row, most) in ROWS.into_iter().zip([MOST_RECORDS, MOST_X, MOST_MARKS]) {

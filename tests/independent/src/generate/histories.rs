@@ -27,6 +27,23 @@ pub fn random_schedule(random: &mut Random) -> Schedule {
     Schedule { label, settings, events }
 }
 
+/// A random schedule in which at most m tasks are out at once, m below k.
+pub fn light_schedule(random: &mut Random) -> Schedule {
+    let mode = if random.percent(30) { 0 } else { 1 };
+    let k = if random.percent(90) { random.between(2, 6) } else { 16 };
+    let n = if random.percent(98) { k + random.below(5) } else { 256 };
+    let settings = Settings::new(mode, n as u16, k as u8).of_version(random.pick(&[1, 2]));
+    let m = random.between(1, k - 1);
+    let turns_in_a_block = if settings.long_lived() { n + 4 } else { 4 };
+    let length = random.below(turns_in_a_block * (m + 1) * 12);
+    let interleaving = random.pick(&Interleaving::WHOLE);
+    let players = players(random, settings);
+    let maker = Maker::new(random, settings, length, players).with_room(m);
+    let events = maker.play_whole(interleaving);
+    let label = format!("light {interleaving:?} {settings} m {m}, {} events", events.len());
+    Schedule { label, settings, events }
+}
+
 /// Settings of all sizes; the edges k = 1, k = N, N = 1, N = 256 and k = 16 come often.
 fn random_settings(random: &mut Random) -> Settings {
     let mode = if random.percent(30) { 0 } else { 1 };

@@ -1,6 +1,6 @@
 //! Interleavings that bring tasks together in one block, with releases, new asks and refused calls.
 
-use crate::grid::{Point, Record, Settings};
+use crate::grid::{Point, Settings, State};
 use crate::history::History;
 use crate::random::Random;
 use crate::rules::Grid;
@@ -58,6 +58,8 @@ pub struct Maker<'a> {
     events: Vec<Event>,
     length: usize,
     players: Vec<u16>,
+    /// At most so many tasks are let out at once.
+    room: usize,
     /// The players that are held where they stand.
     held: Vec<u16>,
     /// In so many of a hundred steps a call is made that need not be right.
@@ -79,11 +81,17 @@ impl Maker<'_> {
             events: Vec::new(),
             length,
             players,
+            room: settings.k(),
             held: Vec::new(),
             refused_calls: random.pick(&[0, 0, 1, 5, 30]),
             freeing: random.pick(&[2, 10, 50, 100]),
             random,
         }
+    }
+
+    /// With at most so many tasks out at once, k or fewer.
+    pub fn with_room(self, room: usize) -> Self {
+        Maker { room, ..self }
     }
 
     /// The schedule of one interleaving.
@@ -140,12 +148,12 @@ impl Maker<'_> {
         }
     }
 
-    /// The call that suits the player's record.
+    /// The call that suits the player's state.
     fn step(&mut self, player: u16) {
-        let kind = match self.history.record(player) {
-            Record::Idle => Kind::Ask,
-            Record::Seeking(..) => Kind::Turn,
-            Record::Holding(_) => Kind::Free,
+        let kind = match self.history.state(player) {
+            State::Idle => Kind::Ask,
+            State::Seeking(..) => Kind::Turn,
+            State::Holding(_) => Kind::Free,
         };
         self.call(kind, player);
     }
@@ -162,16 +170,18 @@ impl Maker<'_> {
             _ => player,
         };
         let kind = self.random.pick(&Kind::ALL);
-        self.call(kind, id);
+        let lets_out = kind == Kind::Ask && self.room < self.history.settings.k();
+        let full = self.history.out.all() == self.room;
+        self.call(if lets_out && full { Kind::Turn } else { kind }, id);
     }
 
     fn able(&mut self, player: u16) -> bool {
         let settings = self.history.settings;
         !self.held.contains(&player)
-            && match self.history.record(player) {
-                Record::Idle => self.history.out.all() < settings.k(),
-                Record::Seeking(..) => true,
-                Record::Holding(_) => settings.long_lived() && self.random.percent(self.freeing),
+            && match self.history.state(player) {
+                State::Idle => self.history.out.all() < self.room,
+                State::Seeking(..) => true,
+                State::Holding(_) => settings.long_lived() && self.random.percent(self.freeing),
             }
     }
 
@@ -186,10 +196,10 @@ impl Maker<'_> {
         players.into_iter().find(|player| self.able(*player))
     }
 
-    /// One-time, with k holders: no more calls are accepted, and now and then the schedule ends.
+    /// One-time, all that are let out hold: no more calls are made, and now and then the schedule ends.
     fn nobody_moves_again(&mut self) -> bool {
         let settings = self.history.settings;
-        let over = !settings.long_lived() && self.history.out.holders == settings.k();
+        let over = !settings.long_lived() && self.history.out.holders == self.room;
         over && self.random.percent(10)
     }
 
@@ -210,7 +220,7 @@ impl Maker<'_> {
         self.step(player);
         let halt = self.history.settings.tasks() * 2;
         let mut calls = self.history.settings.tasks();
-        while let Record::Seeking(_, Point::Scan(_)) = self.history.record(player) {
+        while let State::Seeking(_, Point::Scan(_)) = self.history.state(player) {
             if calls == 0 || self.random.below(halt) == 0 {
                 return;
             }
@@ -241,11 +251,12 @@ impl Maker<'_> {
         }
     }
 
-    /// The idle players ask, one more than the grid takes.
+    /// The idle players ask; if k are let out, one more than the grid takes.
     fn fill(&mut self) {
-        let room = self.history.settings.k() - self.history.out.all();
-        let idle = |player: &u16| self.history.record(*player) == Record::Idle;
-        let asking: Vec<u16> = self.players.iter().copied().filter(idle).take(room + 1).collect();
+        let beyond = usize::from(self.room == self.history.settings.k());
+        let asks = self.room - self.history.out.all() + beyond;
+        let idle = |player: &u16| self.history.state(*player) == State::Idle;
+        let asking: Vec<u16> = self.players.iter().copied().filter(idle).take(asks).collect();
         for player in &asking {
             self.call(Kind::Ask, *player);
         }
@@ -258,7 +269,7 @@ impl Maker<'_> {
     fn drain(&mut self) {
         let before = self.events.len();
         for player in self.players.clone() {
-            if let Record::Holding(_) = self.history.record(player) {
+            if let State::Holding(_) = self.history.state(player) {
                 self.call(Kind::Free, player);
             }
         }
@@ -271,8 +282,8 @@ impl Maker<'_> {
     fn alone(&mut self, player: u16) {
         self.step(player);
         for _ in 0..self.history.settings.bound() {
-            match self.history.record(player) {
-                Record::Seeking(..) => self.step(player),
+            match self.history.state(player) {
+                State::Seeking(..) => self.step(player),
                 _ => return,
             }
         }

@@ -5,7 +5,7 @@
 //! last writer holds. To go right, one task holds first and the others find its mark.
 
 use super::Case;
-use crate::grid::{Direction, Point, Record};
+use crate::grid::{Direction, Point, State};
 use crate::history::History;
 use crate::random::Random;
 use crate::rules::Grid;
@@ -25,10 +25,10 @@ impl Walk {
         let _ = self.history.call(event);
     }
 
-    /// Turns of a seeking task while its record is such.
-    fn turns_while(&mut self, task: u16, such: impl Fn(Record) -> bool) {
-        while matches!(self.history.record(task), Record::Seeking(..))
-            && such(self.history.record(task))
+    /// Turns of a seeking task while its state is such.
+    fn turns_while(&mut self, task: u16, such: impl Fn(State) -> bool) {
+        while matches!(self.history.state(task), State::Seeking(..))
+            && such(self.history.state(task))
         {
             self.call(Kind::Turn, task);
         }
@@ -40,9 +40,9 @@ impl Walk {
 
     /// Turns of the task until it has left its block or holds it.
     fn until_left(&mut self, task: u16) {
-        let before = self.history.record(task);
-        let here = move |record| match (before, record) {
-            (Record::Seeking(was, _), Record::Seeking(is, _)) => was == is,
+        let before = self.history.state(task);
+        let here = move |state| match (before, state) {
+            (State::Seeking(was, _), State::Seeking(is, _)) => was == is,
             _ => false,
         };
         self.turns_while(task, here);
@@ -56,7 +56,7 @@ impl Walk {
                 for task in present {
                     self.call(Kind::Turn, *task);
                 }
-                let scans = |record| matches!(record, Record::Seeking(_, Point::Scan(_)));
+                let scans = |state| matches!(state, State::Seeking(_, Point::Scan(_)));
                 for task in present {
                     self.turns_while(*task, scans);
                 }

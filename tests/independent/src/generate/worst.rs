@@ -30,18 +30,38 @@ pub fn in_order(k: u8) -> Vec<u16> {
 
 /// The worst schedule of the first k tasks of an order, for its first task.
 pub fn worst_schedule(settings: Settings, order: &[u16], last: LastWriter) -> Vec<Event> {
-    let k = settings.k();
-    let scans = if settings.long_lived() { settings.tasks() } else { 1 };
-    let mut events: Vec<Event> =
-        order[..k].iter().map(|task| Event::new(Kind::Ask, *task)).collect();
+    contest(settings, &order[..settings.k()], last)
+}
+
+/// The worst schedule with only tasks 0 to m-1 out, m below k (02, P8): task 0 loses in the first m-1
+/// rows, is alone in the next and holds there.
+pub fn light_worst_schedule(settings: Settings, m: u8, last: LastWriter) -> Vec<Event> {
+    let mut events = contest(settings, &in_order(m), last);
+    let alone = scans(settings) + 3; // write X, scan, write mark, read X
+    events.extend(vec![Event::new(Kind::Turn, 0); alone]);
+    events
+}
+
+fn scans(settings: Settings) -> usize {
+    if settings.long_lived() {
+        settings.tasks()
+    } else {
+        1
+    }
+}
+
+/// All tasks of an order ask, and in each row all present but the last writer of X go down.
+fn contest(settings: Settings, order: &[u16], last: LastWriter) -> Vec<Event> {
+    let scans = scans(settings);
+    let mut events: Vec<Event> = order.iter().map(|task| Event::new(Kind::Ask, *task)).collect();
     let mut turns_of = |tasks: &[u16], rounds: usize| {
         for _ in 0..rounds {
             events.extend(tasks.iter().map(|task| Event::new(Kind::Turn, *task)));
         }
     };
-    for row in 0..k - 1 {
-        let present = &order[..k - row];
-        let losers = &order[..k - row - 1];
+    for row in 0..order.len() - 1 {
+        let present = &order[..order.len() - row];
+        let losers = &order[..order.len() - row - 1];
         let going_on = if last == LastWriter::Holds { present } else { losers };
         turns_of(present, 1); // write X
         turns_of(going_on, scans);

@@ -2,7 +2,7 @@
 
 use super::Variant;
 use crate::access::{Access, Operation, Register};
-use crate::grid::{x_of, Place, Point, Record, Registers, Settings};
+use crate::grid::{x_of, Place, Point, Registers, Settings, State};
 use crate::rules::{Grid, Rules};
 
 /// Who makes an access, and on which registers.
@@ -24,7 +24,7 @@ impl Rules for Shown {
         place: Place,
         point: Point,
         registers: &mut Registers,
-    ) -> (Record, Access) {
+    ) -> (State, Access) {
         let before = registers.clone();
         let (next, access) = Grid.turn(settings, p, place, point, registers);
         (next, self.0(&Made { settings, p, place, before: &before }, access))
@@ -127,9 +127,9 @@ impl Rules for NextAccess {
         place: Place,
         point: Point,
         registers: &mut Registers,
-    ) -> (Record, Access) {
+    ) -> (State, Access) {
         let (next, access) = Grid.turn(settings, p, place, point, registers);
-        let Record::Seeking(place, point) = next else {
+        let State::Seeking(place, point) = next else {
             return (next, access);
         };
         let (_, following) = Grid.turn(settings, p, place, point, &mut registers.clone());

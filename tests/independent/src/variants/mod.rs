@@ -2,6 +2,7 @@
 //! it in one rule, and the generated cases must tell it from the grid.
 
 pub mod accesses;
+pub mod figures;
 pub mod moment;
 pub mod names;
 pub mod peak;
@@ -46,7 +47,7 @@ impl Variant {
 fn all() -> impl Iterator<Item = Variant> {
     let of_01 = shortcuts::ALL.into_iter();
     let of_calls = of_01.chain(moment::ALL).chain(peak::ALL).chain(names::ALL).chain(setup::ALL);
-    of_calls.chain(accesses::ALL)
+    of_calls.chain(accesses::ALL).chain(figures::ALL)
 }
 
 /// The variants that schedules must tell from the grid.

@@ -1,7 +1,7 @@
 //! Misreadings of 02, P1: why the moment was wrong.
 
 use super::Variant;
-use crate::grid::{Record, Settings};
+use crate::grid::{Record, Settings, State};
 use crate::refusal::Refusal;
 use crate::rules::{Grid, Rules};
 use crate::schedule::Kind;
@@ -10,7 +10,7 @@ use crate::schedule::Kind;
 pub struct StillSix;
 
 impl Rules for StillSix {
-    fn wrong_moment(&self, _: Kind, _: Record) -> Refusal {
+    fn wrong_moment(&self, _: Kind, _: State) -> Refusal {
         Refusal::WrongMoment
     }
 }
@@ -19,8 +19,8 @@ impl Rules for StillSix {
 pub struct IdleForSeeking;
 
 impl Rules for IdleForSeeking {
-    fn wrong_moment(&self, kind: Kind, record: Record) -> Refusal {
-        match Grid.wrong_moment(kind, record) {
+    fn wrong_moment(&self, kind: Kind, state: State) -> Refusal {
+        match Grid.wrong_moment(kind, state) {
             Refusal::TaskIdle => Refusal::TaskSeeking,
             Refusal::TaskSeeking => Refusal::TaskIdle,
             refusal => refusal,
@@ -32,7 +32,7 @@ impl Rules for IdleForSeeking {
 pub struct NumberByCall;
 
 impl Rules for NumberByCall {
-    fn wrong_moment(&self, kind: Kind, _: Record) -> Refusal {
+    fn wrong_moment(&self, kind: Kind, _: State) -> Refusal {
         match kind {
             Kind::Turn => Refusal::TaskIdle,
             Kind::Free => Refusal::TaskSeeking,
@@ -45,10 +45,10 @@ impl Rules for NumberByCall {
 pub struct AskOfHolder;
 
 impl Rules for AskOfHolder {
-    fn wrong_moment(&self, kind: Kind, record: Record) -> Refusal {
+    fn wrong_moment(&self, kind: Kind, state: State) -> Refusal {
         match kind {
             Kind::Ask => Refusal::TaskSeeking,
-            _ => Grid.wrong_moment(kind, record),
+            _ => Grid.wrong_moment(kind, state),
         }
     }
 }
@@ -57,10 +57,10 @@ impl Rules for AskOfHolder {
 pub struct NothingToFree;
 
 impl Rules for NothingToFree {
-    fn wrong_moment(&self, kind: Kind, record: Record) -> Refusal {
+    fn wrong_moment(&self, kind: Kind, state: State) -> Refusal {
         match kind {
             Kind::Free => Refusal::TaskIdle,
-            _ => Grid.wrong_moment(kind, record),
+            _ => Grid.wrong_moment(kind, state),
         }
     }
 }
@@ -71,7 +71,7 @@ pub struct RoomFirst;
 impl Rules for RoomFirst {
     fn test_ask(&self, settings: Settings, tasks: &[Record], p: usize) -> Result<(), Refusal> {
         self.test_room(settings, tasks)?;
-        self.test_idle(tasks[p])
+        self.test_idle(tasks[p].state)
     }
 }
 

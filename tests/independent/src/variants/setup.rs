@@ -2,7 +2,7 @@
 
 use super::Variant;
 use crate::calls::{first_out_of_range, test_rows, Answer, Memory};
-use crate::grid::{Record, Settings};
+use crate::grid::{Record, Settings, State};
 use crate::refusal::{Refusal, Row};
 use crate::rules::{Grid, Rules};
 
@@ -17,7 +17,7 @@ fn setup_unless(
     if memory.records[..needed.records].iter().any(such) {
         return Err(Refusal::BusyRow);
     }
-    memory.records[..needed.records].fill(Record::Idle);
+    memory.records[..needed.records].fill(Record::IDLE);
     memory.clear_registers(&needed);
     Ok(Answer::Done)
 }
@@ -36,7 +36,7 @@ pub struct SetupOverSeekers;
 
 impl Rules for SetupOverSeekers {
     fn setup(&self, settings: Settings, memory: &mut Memory) -> Result<Answer, Refusal> {
-        setup_unless(settings, memory, |record| matches!(record, Record::Holding(_)))
+        setup_unless(settings, memory, |record| matches!(record.state, State::Holding(_)))
     }
 }
 
@@ -45,8 +45,17 @@ pub struct SetupOverBadRecords;
 
 impl Rules for SetupOverBadRecords {
     fn setup(&self, settings: Settings, memory: &mut Memory) -> Result<Answer, Refusal> {
-        let busy = |record: &Record| *record != Record::Idle && record.in_range(settings);
+        let busy = |record: &Record| *record != Record::IDLE && record.in_range(settings);
         setup_unless(settings, memory, busy)
+    }
+}
+
+/// An idle task's figure is not looked at (02, P7).
+pub struct SetupOverFigures;
+
+impl Rules for SetupOverFigures {
+    fn setup(&self, settings: Settings, memory: &mut Memory) -> Result<Answer, Refusal> {
+        setup_unless(settings, memory, |record| record.state != State::Idle)
     }
 }
 
@@ -56,9 +65,7 @@ pub struct SetupTests3;
 impl Rules for SetupTests3 {
     fn setup(&self, settings: Settings, memory: &mut Memory) -> Result<Answer, Refusal> {
         let needed = test_rows(self, settings, memory)?;
-        if let Some((row, index)) = first_out_of_range(self, settings, &needed, memory) {
-            return Err(Refusal::OutOfRange { row, index });
-        }
+        first_out_of_range(self, settings, &needed, memory)?;
         Grid.setup(settings, memory)
     }
 }
@@ -70,7 +77,9 @@ impl Rules for SetupTests3OfRecords {
     fn setup(&self, settings: Settings, memory: &mut Memory) -> Result<Answer, Refusal> {
         let needed = test_rows(self, settings, memory)?;
         match first_out_of_range(self, settings, &needed, memory) {
-            Some((Row::Records, index)) => Err(Refusal::OutOfRange { row: Row::Records, index }),
+            Err(Refusal::OutOfRange { row: Row::Records, index }) => {
+                Err(Refusal::OutOfRange { row: Row::Records, index })
+            }
             _ => Grid.setup(settings, memory),
         }
     }
@@ -82,7 +91,7 @@ pub struct SetupTestsSurplus;
 impl Rules for SetupTestsSurplus {
     fn setup(&self, settings: Settings, memory: &mut Memory) -> Result<Answer, Refusal> {
         test_rows(self, settings, memory)?;
-        if memory.records.iter().any(|record| *record != Record::Idle) {
+        if memory.records.iter().any(|record| *record != Record::IDLE) {
             return Err(Refusal::BusyRow);
         }
         Grid.setup(settings, memory)
@@ -95,7 +104,7 @@ pub struct SetupBusyFirst;
 impl Rules for SetupBusyFirst {
     fn setup(&self, settings: Settings, memory: &mut Memory) -> Result<Answer, Refusal> {
         self.test_settings(settings)?;
-        if memory.records.iter().take(settings.tasks()).any(|record| *record != Record::Idle) {
+        if memory.records.iter().take(settings.tasks()).any(|record| *record != Record::IDLE) {
             return Err(Refusal::BusyRow);
         }
         Grid.setup(settings, memory)
@@ -113,10 +122,11 @@ impl Rules for SetupClearsFirst {
     }
 }
 
-pub const ALL: [Variant; 8] = [
+pub const ALL: [Variant; 9] = [
     Variant::by_calls("setup-never-busy", &SetupNeverBusy),
     Variant::by_calls("setup-over-seekers", &SetupOverSeekers),
     Variant::by_calls("setup-over-bad-records", &SetupOverBadRecords),
+    Variant::by_calls("setup-over-figures", &SetupOverFigures),
     Variant::by_calls("setup-tests-3", &SetupTests3),
     Variant::by_calls("setup-tests-3-of-records", &SetupTests3OfRecords),
     Variant::by_calls("setup-tests-surplus", &SetupTestsSurplus),

@@ -2,7 +2,7 @@
 
 use super::Variant;
 use crate::access::Access;
-use crate::grid::{x_of, Direction, Name, Place, Point, Record, Registers, Settings};
+use crate::grid::{x_of, Direction, Name, Place, Point, Registers, Settings, State};
 use crate::rules::{grid_turn, leave, moved, Grid, Rules};
 
 /// One shared mark per block in mode 1. A task going right has not set it: it reads it once more, and
@@ -25,7 +25,7 @@ impl Rules for SharedMark {
         place: Place,
         point: Point,
         registers: &mut Registers,
-    ) -> (Record, Access) {
+    ) -> (State, Access) {
         match point {
             Point::Clear(Direction::Right) => {
                 let access = self.read_mark(settings, registers, settings.block(place), p);
@@ -60,8 +60,8 @@ impl Rules for ClearEveryMark {
 pub struct CountHolders;
 
 impl Rules for CountHolders {
-    fn counts(&self, record: Record) -> bool {
-        matches!(record, Record::Holding(_))
+    fn counts(&self, state: State) -> bool {
+        matches!(state, State::Holding(_))
     }
 }
 
@@ -76,10 +76,10 @@ impl Rules for ScanAtOnce {
         place: Place,
         point: Point,
         registers: &mut Registers,
-    ) -> (Record, Access) {
+    ) -> (State, Access) {
         let mut turned = grid_turn(self, settings, p, place, point, registers);
         if let Point::Scan(_) = point {
-            while let (Record::Seeking(place, Point::Scan(h)), _) = turned {
+            while let (State::Seeking(place, Point::Scan(h)), _) = turned {
                 turned = grid_turn(self, settings, p, place, Point::Scan(h), registers);
             }
         }
@@ -98,18 +98,18 @@ impl Rules for TestXFirst {
         place: Place,
         point: Point,
         registers: &mut Registers,
-    ) -> (Record, Access) {
+    ) -> (State, Access) {
         match point {
             Point::Scan(_) => match grid_turn(self, settings, p, place, point, registers) {
-                (Record::Seeking(place, Point::WriteMark), access) => {
-                    (Record::Seeking(place, Point::ReadX), access)
+                (State::Seeking(place, Point::WriteMark), access) => {
+                    (State::Seeking(place, Point::ReadX), access)
                 }
                 turned => turned,
             },
             Point::ReadX => {
                 let access = Access::read_x(registers, settings.block(place));
                 let next = if access.value == x_of(p) {
-                    Record::Seeking(place, Point::WriteMark)
+                    State::Seeking(place, Point::WriteMark)
                 } else {
                     leave(settings, place, Direction::Down)
                 };
@@ -117,7 +117,7 @@ impl Rules for TestXFirst {
             }
             Point::WriteMark => {
                 let access = self.write_mark(settings, registers, settings.block(place), p, 1);
-                (Record::Holding(place), access)
+                (State::Holding(place), access)
             }
             _ => grid_turn(self, settings, p, place, point, registers),
         }

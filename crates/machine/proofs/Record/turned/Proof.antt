@@ -1,33 +1,37 @@
--- A record's turn is the definition's `nextRecord`: a seeking record by what the turn at its point ensures.
-use Rattle.machine.proofs.{Tests.tests, refusals.Ranges.{seeks-on-block, seeks-at-point}}
+-- A record's turn is the definition's `nextRecord`: a seeking record by what the turn at its point ensures, with one turn
+-- more.
+use native.Mathlib.Omega.{arith}
+use Rattle.machine.specs.Records.{stateInRange, turnsInRange}
+use Rattle.counting.proofs.Bools.{and-l, and-r}
+use Rattle.machine.proofs.{Tests.tests, refusals.Ranges.{seeks-on-block, seeks-at-point, seeks-below, bound-few}}
 use Rattle.machine.proofs.Record.turned.Statement.{statement}
 use Rattle.machine.proofs.Record.turned.Tie as tie
 
-enum-told : tie.Need-enum-told
-enum-told c = search tests
-
-enum-known-state : tie.Need-enum-known-state
-enum-known-state c = search tests
-
 turned-requires : tie.Need-turned-requires
-turned-requires c κs = (
-  seeks-on-block _ _ _ _ _ (c .before .before .before .pre) (c .before .state .given .1),
-  seeks-at-point _ _ _ _ _ (c .before .before .before .pre) (c .before .state .given .1),
-)
+turned-requires c κs =
+    let a = c .before .before .before .args in
+    let good = and-l (stateInRange (a .s) (a .self .state)) (turnsInRange (a .s) (a .self .state) (a .self .turns))
+    (c .before .before .before .pre) in (
+      seeks-on-block _ _ _ _ _ good (c .before .state .given .1),
+      seeks-at-point _ _ _ _ _ good (c .before .state .given .1),
+    )
 
-enum-told-2 : tie.Need-enum-told-2
-enum-told-2 c = search tests
-
-returns : tie.Need-returns
-returns c = rw (c .enum-told .given .1)
+add-t11 : tie.Need-add-t11
+add-t11 c =
+    let known = c .before .before .before in
+    let start = known .before .before in
+    let a = start .args in
+    let few = bound-few (a .s) (search tests) (search tests) in
+    let below = seeks-below (a .s) (a .self .state) _ _ (a .self .turns) _
+    (and-r (stateInRange (a .s) (a .self .state)) (turnsInRange (a .s) (a .self .state) (a .self .turns)) (start .pre))
+    (known .state .given .1) in
+    omega arith
 
 returns-2 : tie.Need-returns-2
-returns-2 c = rw (c .before .before .state .given .1) (rw (c .turned .ensures))
-
-returns-3 : tie.Need-returns-3
-returns-3 c = rw (c .enum-told2 .given .1)
+returns-2 c = rw (c .before .before .before .state .given .1, c .before .turned .ensures)
 
 pub turned-spec : {M : Type 1} → statement M
 turned-spec =
     tie.close
-    (tie.spec enum-told enum-known-state turned-requires enum-told-2 returns returns-2 returns-3)
+    (tie.spec (λ c. search tests) (λ c. search tests) turned-requires add-t11 (λ c. search tests)
+    (λ c. rw (c .enum-told .given .1)) returns-2 (λ c. rw (c .enum-told2 .given .1)))
