@@ -10,11 +10,11 @@ use Rattle.machine.specs.Calls.{Outcome, toldOf, nextState, recordAfter,
 use Rattle.machine.specs.declared.{Settings.Settings, State.State, Record.Record}
 use Rattle.machine.specs.declared.{Register.{Register, the-variants.{X, Mark}}, Op.the-variants.{Read, Write}}
 use Rattle.machine.specs.declared.Access.{Access, the-variants.{NoAccess, Touch}}
-use Rattle.machine.specs.declared.{Kind.Kind, Event.Event, Shown.Shown}
+use Rattle.machine.specs.declared.{Kind.Kind, Event.Event, Shown.{Shown, the-variants.Nothing}}
 use Rattle.machine.specs.promises.OneAccess.{Needed, RegisterNeeded, accessOf, AcceptedIn, reads, SameRead}
 use Rattle.machine.specs.promises.OneAccess.{SameEnd, OnlyTheRegisterReadBears, AtX, AtMark, WritesX, WritesMark}
 use Rattle.machine.specs.promises.OneAccess.{HasWritten, ChangesOnly, WrittenChanges}
-use Rattle.machine.specs.promises.OneAccess.{OnlyTheRegisterWrittenChanges, Shows, EachShows}
+use Rattle.machine.specs.promises.OneAccess.{OnlyTheRegisterWrittenChanges, ReadIs, WrittenIs, Shows, EachShows}
 use Rattle.machine.proofs.refusals.{Refusing.ruled, Passing.{passed, by-the-rules}, Passed.{Passed, Fit}}
 use Rattle.machine.proofs.calls.OneAccess.{call-needed}
 
@@ -192,36 +192,42 @@ module _ (s : Settings) (event : Event) (m : Memory) (t : AcceptedIn s event m) 
       (store s (accessOf s event m) m)
   ended-stored = ap (λ (o : Outcome). o .memory) (by-the-rules s event m t)
 
-  shows : (a : Access) → accessOf s event m ≡ a → Shows s event m (shownBy a (value s a m))
-  shows NoAccess is = (
-    record { xs = xs-same; marks = marks-same },
-    λ m′ t′ e. bearing m′ t′ e (rw is tt),
-  )
+  register-needed : RegisterNeeded s (accessOf s event m)
+  register-needed = call-needed s event m (passed s event m t)
+
+  -- each access shows as the promise has it: none, a read, a write
+  none-is : accessOf s event m ≡ NoAccess → Shows s event m Nothing
+  none-is is = (record { xs = xs-same; marks = marks-same }, λ m′ t′ e. bearing m′ t′ e (rw is tt))
     where
       xs-same : ended .xs ≡ m .xs
       xs-same = rw (ended-stored, is)
 
       marks-same : ended .marks ≡ m .marks
       marks-same = rw (ended-stored, is)
-  shows (Touch register Read) is = record {
-    needed = rw is at needed;
+
+  read-is : (register : Register) → accessOf s event m ≡ Touch register Read
+      → ReadIs s event m register (content s register m)
+  read-is register is = record {
+    needed = rw is at register-needed;
     had = refl;
     bears = λ m′ t′ e has. bearing m′ t′ e (rw is (sym has));
     unchanged = record { xs = rw (ended-stored, is); marks = rw (ended-stored, is) };
   }
-    where
-      needed : RegisterNeeded s (accessOf s event m)
-      needed = call-needed s event m (passed s event m t)
-  shows (Touch register (Write v)) is = record {
-    needed = rw is at needed;
+
+  written-is : (register : Register) (v : ℕ) → accessOf s event m ≡ Touch register (Write v)
+      → WrittenIs s event m register v
+  written-is register v is = record {
+    needed = rw is at register-needed;
     has = rw is at (rows-after .written);
     xs = rw is at (rows-after .xs);
     marks = rw is at (rows-after .marks);
     bears = λ m′ t′ e. bearing m′ t′ e (rw is tt);
   }
-    where
-      needed : RegisterNeeded s (accessOf s event m)
-      needed = call-needed s event m (passed s event m t)
+
+  shows : (a : Access) → accessOf s event m ≡ a → Shows s event m (shownBy a (value s a m))
+  shows NoAccess is = none-is is
+  shows (Touch register Read) is = read-is register is
+  shows (Touch register (Write v)) is = written-is register v is
 
 pub each-shows : EachShows
 each-shows s event m t =
