@@ -19,7 +19,7 @@ ghost use lib.Dec.{T};
 ghost use Rattle.machine.specs.Settings.{permitted, own};
 ghost use Rattle.machine.specs.Places.{blockNumber};
 ghost use Rattle.machine.specs.Records.{stateInRange};
-ghost use Rattle.machine.specs.Turn.{pointAccess, turnAccess, releaseAccess, opShown, shownBy};
+ghost use Rattle.machine.specs.{Grid.pointAccess, Turn.{turnAccess, releaseAccess, opShown, shownBy}};
 
 // The task's own mark in the block at (r, c) becomes `value`.
 fn own_mark(s: Settings, task: TaskId, r: u8, c: u8, value: u32) -> Access

@@ -3,6 +3,7 @@ pub mod Settings
 pub mod Places
 pub mod Records
 pub mod Memory
+pub mod Grid
 pub mod Turn
 pub mod Refusals
 pub mod Answers

@@ -7,7 +7,7 @@ ghost use lib.Dec.{T};
 ghost use Rattle.machine.specs.Answers.{numberOf};
 ghost use Rattle.machine.specs.Settings.{width, bound};
 ghost use Rattle.machine.specs.Records.{pointInRange, recordInRange};
-ghost use Rattle.machine.specs.Turn.{arrive, move, leave, pointTurned, nextRecord};
+ghost use Rattle.machine.specs.{Grid.{arrive, move, leave, pointTurned}, Turn.nextRecord};
 
 // Mode 0 is one-time, mode 1 long-lived. There are n tasks, of which at most k are out at once. Names
 // are numbered by rows in version 1 and by diagonals in version 2.

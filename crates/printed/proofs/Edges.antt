@@ -7,7 +7,7 @@ use lib.Dec.{T, eqb}
 use borrow.Author.Tests.{le-leb, lt-leb}
 use Rattle.grid.specs.Triangle.{half, placeNumber, diagonalNumber}
 use Rattle.counting.{specs.Counting.{count, firstBad}, proofs.Tested.misses}
-use Rattle.machine.specs.{Memory.Memory, Turn.arrive, Answers.{toldAccepted, isAccepted, plain}}
+use Rattle.machine.specs.{Memory.Memory, Grid.arrive, Answers.{toldAccepted, isAccepted, plain}}
 use Rattle.machine.specs.Calls.{call, setup, verdictOf, standing, ask, release}
 use Rattle.machine.specs.promises.{Ranges.WithinLimits, Demands.SetUp}
 use Rattle.machine.specs.declared.{Settings.Settings, State.{State, the-variants.{Idle, Seeking, Holding}}}

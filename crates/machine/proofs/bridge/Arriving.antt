@@ -3,7 +3,7 @@
 use mathlib.Core.Path.{_≡_}
 use Prim.Native.Nat.{ℕ, _+_, _≤_, _<_}
 use borrow.Author.Tests.{eq-eqb, ne-eqb, le-leb, lt-leb}
-use Rattle.machine.specs.{Settings.own, Places.blockNumber, Turn.{releaseAccess, arrive, move, leave}}
+use Rattle.machine.specs.{Settings.own, Places.blockNumber, Grid.{arrive, move, leave}, Turn.releaseAccess}
 use Rattle.machine.specs.declared.{Settings.Settings, Direction.Direction, Point.the-variants.{WriteX, Clear}}
 use Rattle.machine.specs.declared.State.the-variants.{Seeking, Holding}
 use Rattle.machine.specs.declared.{Register.the-variants.Mark, Op.the-variants.Write}

@@ -6,7 +6,7 @@ use native.Mathlib.{Nat.{le-trans, mul-le-mul-right}, Omega.arith}
 use lib.Dec.{T, le→leb, lt→ltb}
 use borrow.Author.Tests.{eq-eqb, ne-eqb, not-false}
 use Rattle.machine.specs.{Settings.{width, bound}, Records.{isSeeking, stateInRange, turnsInRange}}
-use Rattle.machine.specs.{Memory.{Memory, stateOf, turnsIn}, Turn.{arrive, turnsAfter}, Refusals.wrongMoment}
+use Rattle.machine.specs.{Memory.{Memory, stateOf, turnsIn}, Grid.arrive, Turn.turnsAfter, Refusals.wrongMoment}
 use Rattle.machine.specs.Calls.{nextState}
 use Rattle.machine.specs.promises.Ranges.{WithinLimits}
 use Rattle.machine.specs.declared.Settings.{Settings}

@@ -6,7 +6,7 @@ use lib.{Dec.{T, leb, leb→le, ltb→lt, eqb→eq}, ListN.{getD, set}, Seq.{get
 use borrow.Author.Tests.{eqb-false}
 use Rattle.machine.specs.{Settings.{width, own}, Places.blockNumber, Records.{idle, pointInRange, stateInRange}}
 use Rattle.machine.specs.Memory.{Memory, markIndex, recordOf, stateOf, withRecord}
-use Rattle.machine.specs.Turn.{access, store, arrive, move, leave, pointTurned}
+use Rattle.machine.specs.{Grid.{arrive, move, leave, pointTurned}, Turn.{access, store}}
 use Rattle.machine.specs.{Refusals.{oneTimeRelease, wrongMoment}, Calls.{nextState, recordAfter, accept}}
 use Rattle.machine.specs.declared.{Settings.Settings, Direction.{Direction, the-variants.{Right, Down}}}
 use Rattle.machine.specs.declared.Point.{Point, the-variants.{WriteX, Scan, WriteMark, ReadX, Clear}}

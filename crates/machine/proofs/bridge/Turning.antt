@@ -2,7 +2,7 @@
 use mathlib.Core.Path.{_≡_}
 use Prim.Native.Nat.{ℕ, _+_}
 use borrow.Author.Tests.{eq-eqb, ne-eqb}
-use Rattle.machine.specs.{Settings.width, Turn.{leave, pointTurned}}
+use Rattle.machine.specs.{Settings.width, Grid.{leave, pointTurned}}
 use Rattle.machine.specs.declared.{Settings.Settings, Direction.the-variants.{Right, Down}}
 use Rattle.machine.specs.declared.Point.the-variants.{Scan, WriteMark, ReadX}
 use Rattle.machine.specs.declared.State.the-variants.{Seeking, Holding}

@@ -9,7 +9,8 @@ use borrow.Author.Tests.{eq-eqb}
 use Rattle.machine.specs.{Settings.width, Records.{idle, pointInRange, stateInRange, turnsInRange}}
 use Rattle.machine.specs.Memory.{Memory, markIndex, stateOf, turnsIn, withRecord, withX, withMark, put}
 use Rattle.machine.specs.Memory.{xInRange, markInRange}
-use Rattle.machine.specs.Turn.{access, pointAccess, value, store, arrive, move, leave, pointTurned, turnsAfter}
+use Rattle.machine.specs.Grid.{pointAccess, arrive, move, leave, pointTurned}
+use Rattle.machine.specs.Turn.{access, value, store, turnsAfter}
 use Rattle.machine.specs.{Refusals.wrongMoment, Calls.{nextState, recordAfter, accept}}
 use Rattle.machine.specs.declared.{Settings.Settings, Direction.{Direction, the-variants.{Right, Down}}}
 use Rattle.machine.specs.declared.Point.{Point, the-variants.{WriteX, Scan, WriteMark, ReadX, Clear}}

@@ -6,7 +6,7 @@ use native.Mathlib.Omega.{arith}
 use lib.Dec.{T, leb}
 use borrow.Author.Tests.{le-leb, lt-leb, leb-true}
 use Rattle.machine.specs.{Settings.{width, own}, Places.blockNumber, Records.{pointInRange, stateInRange}}
-use Rattle.machine.specs.{Memory.{Memory, stateOf}, Turn.{pointAccess, access, releaseAccess}}
+use Rattle.machine.specs.{Memory.{Memory, stateOf}, Grid.pointAccess, Turn.{access, releaseAccess}}
 use Rattle.machine.specs.declared.Settings.{Settings}
 use Rattle.machine.specs.declared.Point.{Point, the-variants.{WriteX, Scan, WriteMark, ReadX, Clear}}
 use Rattle.machine.specs.declared.State.{State, the-variants.{Idle, Seeking, Holding}}

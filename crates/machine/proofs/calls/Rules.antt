@@ -7,7 +7,7 @@ use lib.{Dec.{T, leb→le, ltb→lt, eqb→eq}, ListN.getD}
 use borrow.Author.Tests.{le-leb, lt-leb, eqb-false}
 use Rattle.machine.specs.{Settings.{width, own}, Places.blockNumber, Records.{pointInRange, stateInRange}}
 use Rattle.machine.specs.Memory.{Memory, markIndex, stateOf, withMark}
-use Rattle.machine.specs.Turn.{pointAccess, value, store, shownBy, arrive, move, leave, pointTurned}
+use Rattle.machine.specs.{Grid.{pointAccess, arrive, move, leave, pointTurned}, Turn.{value, store, shownBy}}
 use Rattle.machine.specs.Calls.{Outcome, accept, call, eventOf, ask, turn, release}
 use Rattle.machine.specs.declared.{Settings.Settings, Direction.{Direction, the-variants.{Right, Down}}}
 use Rattle.machine.specs.declared.Point.{Point, the-variants.{WriteX, Scan, WriteMark, ReadX, Clear}}

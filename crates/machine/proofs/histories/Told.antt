@@ -7,7 +7,7 @@ use native.Mathlib.Omega.{arith}
 use lib.Dec.{eqb}
 use borrow.Author.Tests.{eqb-true, eqb-false, ne-eqb}
 use Rattle.machine.specs.{Settings.width, Places.nameNumber, Records.{isHolding, isOut}, Memory.{Memory, stateOf}}
-use Rattle.machine.specs.{Turn.{pointAccess, value, arrive, move, leave, pointTurned}, Refusals.wrongMoment}
+use Rattle.machine.specs.{Grid.{pointAccess, arrive, move, leave, pointTurned}, Turn.value, Refusals.wrongMoment}
 use Rattle.machine.specs.Answers.{isAccepted, plain}
 use Rattle.machine.specs.Calls.{Outcome, nameAt, standing, toldOf, nextState, call, setup, release}
 use Rattle.machine.specs.History.{run, history}

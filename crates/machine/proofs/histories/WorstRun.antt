@@ -7,7 +7,7 @@ use lib.{Dec.{T, eqb}, ListN.{getD, set}}
 use borrow.Author.Tests.{eq-eqb, ne-eqb}
 use Rattle.machine.specs.{Settings.{width, own}, Places.blockNumber, Records.isHolding}
 use Rattle.machine.specs.Memory.{Memory, markIndex, stateOf, outOf}
-use Rattle.machine.specs.{Turn.{arrive, leave}, Calls.{nextState, accept, setup, ask}, History.turns}
+use Rattle.machine.specs.{Grid.{arrive, leave}, Calls.{nextState, accept, setup, ask}, History.turns}
 use Rattle.machine.specs.promises.{Demands.SetUp, Ranges.WithinLimits}
 use Rattle.machine.specs.declared.{Settings.Settings, Direction.the-variants.Down}
 use Rattle.machine.specs.declared.Point.{Point, the-variants.{WriteX, Scan, WriteMark, ReadX, Clear}}
