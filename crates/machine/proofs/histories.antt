@@ -12,3 +12,4 @@ pub mod Exact
 pub mod Demand3
 pub mod Setups
 pub mod LightExact
+pub mod Reached

@@ -10,3 +10,4 @@ pub mod Telling
 pub mod Demands
 pub mod Setups
 pub mod Light
+pub mod Reached

@@ -88,7 +88,7 @@ module _ (s : Settings) (fair : WithinLimits s) where
     where
       go : (outcome : Outcome) → Called s event memory outcome → outOf s (outcome .memory .records) ≤ m
           → Invariants m (outcome .memory)
-      go outcome (refused why) few = g
+      go outcome (refused why its-task) few = g
       go outcome (taken o) few = record {
         fit = accept-fits s fair (event .kind) (event .task .0) memory (g .fit) (o .known) (o .moment)
             (turns-stay s fair memory (g .fit) (event .task .0) (o .known) (event .kind) (o .moment)
@@ -161,7 +161,7 @@ module _ (s : Settings) (fair : WithinLimits s) where
     where
       go : (outcome : Outcome) → Called s event memory outcome
           → outOf s (outcome .memory .records) ≤ outOf s (memory .records) + asked (event .kind)
-      go outcome (refused why) = omega arith
+      go outcome (refused why its-task) = omega arith
       go outcome (taken o) = accepted-out (event .kind) (event .task .0) memory fit o
 
   accepted-few : (kind : Kind) (p : ℕ) (memory : Memory) → Fit s memory

@@ -1,10 +1,14 @@
--- The two outcomes of a call on a fit memory: the task may and it is accepted, or it is refused and changes nothing.
+-- The two outcomes of a call on a fit memory: the task may and it is accepted, or it is refused by a number that has to
+-- do with the task, 4 or above, and changes nothing.
 use mathlib.Core.{Path.{_≡_, refl, sym, subst}, Bool.{Bool, true, false}, List.{[], _∷_}}
+use Prim.Native.Nat.{_≤_}
+use native.Mathlib.Omega.{arith}
 use borrow.Author.Tests.{lt-leb, leb-false}
-use Rattle.machine.specs.{Memory.{Memory, stateOf, outOf}, Answers.{isAccepted, plain}}
+use Rattle.machine.specs.{Memory.{Memory, stateOf, outOf}, Answers.{numberOf, isAccepted, plain}}
 use Rattle.machine.specs.Refusals.{first, when, noSuchTask, oneTimeRelease, wrongMoment, moment, tooManyOut}
 use Rattle.machine.specs.Calls.{Outcome, refuseOr, call}
 use Rattle.machine.specs.declared.{Settings.Settings, Event.Event}
+use Rattle.machine.specs.declared.State.{State, the-variants.{Idle, Seeking, Holding}}
 use Rattle.machine.specs.declared.Refusal.{Refusal, the-variants.{NoSuchTask, OneTime, TooManyOut}}
 use Rattle.machine.specs.declared.{Verdict.Verdict, Told.Told}
 use Rattle.machine.specs.promises.Ranges.{WithinLimits}
@@ -16,7 +20,13 @@ accepted-answer s event m = is-true _ (ruled-accepted s event m)
 
 pub data Called (s : Settings) (event : Event) (m : Memory) : Outcome → Type 0 where
   taken : May s event m → Called s event m (ruled s event m)
-  refused : (why : Refusal) → Called s event m (record { answer = plain (Told.Refused why); memory = m })
+  refused : (why : Refusal) → 4 ≤ numberOf why
+      → Called s event m (record { answer = plain (Told.Refused why); memory = m })
+
+moment-above : (state : State) → 4 ≤ numberOf (moment state)
+moment-above Idle = omega arith
+moment-above (Seeking r c point) = omega arith
+moment-above (Holding r c) = omega arith
 
 module _ (s : Settings) (l : WithinLimits s) (event : Event) (m : Memory) (fit : Fit s m) where
   -- the tests of the task
@@ -37,10 +47,10 @@ module _ (s : Settings) (l : WithinLimits s) (event : Event) (m : Memory) (fit :
           → wrongMoment (event .kind) (stateOf m (event .task .0)) ≡ wrong
           → tooManyOut s (event .kind) (outOf s (m .records)) ≡ out
           → Called s event m (refuseOr (lastTests task once wrong out) m (ruled s event m))
-      go true once wrong out a b c d = refused NoSuchTask
-      go false true wrong out a b c d = refused OneTime
-      go false false true out a b c d = refused (moment (stateOf m (event .task .0)))
-      go false false false true a b c d = refused TooManyOut
+      go true once wrong out a b c d = refused NoSuchTask (omega arith)
+      go false true wrong out a b c d = refused OneTime (omega arith)
+      go false false true out a b c d = refused _ (moment-above (stateOf m (event .task .0)))
+      go false false false true a b c d = refused TooManyOut (omega arith)
       go false false false false a b c d =
           taken (record { known = leb-false (s .n) (event .task .0) a; lived = b; moment = c; room = d })
 

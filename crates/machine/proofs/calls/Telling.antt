@@ -27,38 +27,39 @@ module _ (s : Settings) (p : ℕ) (m : Memory) where
   next kind = nextState s kind p (stateOf m p) m
 
   -- the record and the answer of an accepted call
-  after : (kind : Kind) → AcceptedIn s (eventOf kind p) m → stateOf (call s (eventOf kind p) m .memory) p ≡ next kind
-  after kind t = ap (λ (r : Record). r .state) (only-the-register-written-changes s (eventOf kind p) m t .own)
+  pub state-after : (kind : Kind) → AcceptedIn s (eventOf kind p) m
+      → stateOf (call s (eventOf kind p) m .memory) p ≡ next kind
+  state-after kind t = ap (λ (r : Record). r .state) (only-the-register-written-changes s (eventOf kind p) m t .own)
 
-  answered : (kind : Kind) → AcceptedIn s (eventOf kind p) m
+  pub told-after : (kind : Kind) → AcceptedIn s (eventOf kind p) m
       → call s (eventOf kind p) m .answer .told ≡ toldOf s kind (stateOf m p) (next kind)
-  answered kind t = ap (λ (o : Outcome). o .answer .told) (by-the-rules s (eventOf kind p) m t)
+  told-after kind t = ap (λ (o : Outcome). o .answer .told) (by-the-rules s (eventOf kind p) m t)
 
   seeks-answered : (kind : Kind) → AcceptedIn s (eventOf kind p) m → T (isSeeking (next kind))
       → call s (eventOf kind p) m .answer .told ≡ Told.Seeks
-  seeks-answered Ask t seeks = answered Ask t ∙ seeks-told s (next Ask) seeks
-  seeks-answered Turn t seeks = answered Turn t ∙ seeks-told s (next Turn) seeks
+  seeks-answered Ask t seeks = told-after Ask t ∙ seeks-told s (next Ask) seeks
+  seeks-answered Turn t seeks = told-after Turn t ∙ seeks-told s (next Turn) seeks
   seeks-answered Release t seeks = absurd seeks
 
   holds-answered : (kind : Kind) (r c : ℕ) → AcceptedIn s (eventOf kind p) m → next kind ≡ Holding r c
       → call s (eventOf kind p) m .answer .told ≡ Told.Holds (record { 0 = nameNumber s r c })
-  holds-answered Ask r c t held = answered Ask t ∙ ap (standing s) held
-  holds-answered Turn r c t held = answered Turn t ∙ ap (standing s) held
+  holds-answered Ask r c t held = told-after Ask t ∙ ap (standing s) held
+  holds-answered Turn r c t held = told-after Turn t ∙ ap (standing s) held
   holds-answered Release r c t held = let z : _≡_ {A = ℕ} 0 1 = cc in absurd (let none : ⊥ = omega arith in none)
 
 pub each-answer-tells : EachAnswerTells
 each-answer-tells s p m = record {
   seeks = λ kind t seeks.
       tells _ Told.Seeks [] (seeks-answered s p m kind t
-      (subst (λ (state : State). T (isSeeking state)) (after s p m kind t) seeks)) (refl, refl);
+      (subst (λ (state : State). T (isSeeking state)) (state-after s p m kind t) seeks)) (refl, refl);
   holds = λ kind n t held.
       tells _ (Told.Holds (record { 0 = n })) (n ∷ [])
-      (holds-answered s p m kind (held .r) (held .c) t (sym (after s p m kind t) ∙ held .holds)
+      (holds-answered s p m kind (held .r) (held .c) t (sym (state-after s p m kind t) ∙ held .holds)
       ∙ ap (λ (name : ℕ). Told.Holds (record { 0 = name })) (sym (held .named)))
       (refl, refl);
   frees = λ n t held.
       tells _ (Told.Freed (record { 0 = n })) (n ∷ [])
-      (answered s p m Release t ∙ ap (freed s) (held .holds)
+      (told-after s p m Release t ∙ ap (freed s) (held .holds)
       ∙ ap (λ (name : ℕ). Told.Freed (record { 0 = name })) (sym (held .named))) (refl, refl);
   done = λ ok. tells _ Told.Done [] (ap (λ (answer : Answer). answer .told) ok) (refl, refl) .1;
 }

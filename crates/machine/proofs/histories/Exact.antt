@@ -27,7 +27,7 @@ use Rattle.grid.proofs.Triangle.{half-most}
 taken-turn-seeks : (s : Settings) (m : Memory) (p : ℕ) (outcome : Outcome) → Called s (turn p) m outcome
     → T (isAccepted (outcome .answer))
     → Seeks m p
-taken-turn-seeks s m p outcome (refused why) t = absurd t
+taken-turn-seeks s m p outcome (refused why its-task) t = absurd t
 taken-turn-seeks s m p outcome (taken o) t = rw (not-false (isSeeking (stateOf m p)) (o .moment)) tt
 
 -- so before a last turn of task 0, in calls of which none is refused, task 0 seeks

@@ -79,7 +79,7 @@ module _ (s : Settings) (fair : WithinLimits s) (p : ℕ) (m : Memory) (sound : 
     where
       go : (outcome : Outcome) → Called s event m outcome → (its : Bool) → eqb (event .task .0) p ≡ its
           → Counts (outcome .memory) p (cond (isAccepted (outcome .answer) && its) (counted (event .kind) t) t)
-      go outcome (refused why) its e = h
+      go outcome (refused why its-task) its e = h
       go outcome (taken o) true e =
           let z : event .task .0 ≡ p = eqb-true (event .task .0) p e in
           rw (accepted-answer s event m, z)

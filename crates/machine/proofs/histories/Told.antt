@@ -95,7 +95,7 @@ module _ (s : Settings) (fair : WithinLimits s) (p : ℕ) (m : Memory) (sound : 
       go : (outcome : Outcome) → Called s event m outcome → (its : Bool) → eqb (event .task .0) p ≡ its
           → TrueOf s (stateOf (outcome .memory) p)
           (cond (isAccepted (outcome .answer) && its) (outcome .answer) before .told)
-      go outcome (refused why) its e = h
+      go outcome (refused why its-task) its e = h
       go outcome (taken o) true e =
           let z : event .task .0 ≡ p = eqb-true (event .task .0) p e in
           let own = caller-after s fair m sound (event .task .0) (o .known) (event .kind)
