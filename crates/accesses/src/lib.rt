@@ -1,5 +1,5 @@
-// The one register that a call of one task's record touches, and what an answer shows of it. Nothing
-// above this crate matches on points.
+// The one register that a call of one task's record touches, and what an answer shows of it. Of
+// what is above this crate only the test program `memories` matches on points.
 
 use machine::Access;
 use machine::Letter;
