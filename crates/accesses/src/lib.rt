@@ -4,11 +4,13 @@
 use machine::Access;
 use machine::Letter;
 use machine::Op;
+use machine::Place;
 use machine::Point;
 use machine::Record;
 use machine::Register;
 use machine::Settings;
 use machine::Shown;
+use machine::Stand;
 use machine::State;
 use machine::TaskId;
 use places::block_number;
@@ -18,8 +20,9 @@ ghost use Prim.Native.Nat.{_+_, _≤_};
 ghost use lib.Dec.{T};
 ghost use Rattle.machine.specs.Settings.{permitted, own};
 ghost use Rattle.machine.specs.Places.{blockNumber};
-ghost use Rattle.machine.specs.Records.{stateInRange};
-ghost use Rattle.machine.specs.{Grid.pointAccess, Turn.{turnAccess, releaseAccess, opShown, shownBy}};
+ghost use Rattle.machine.specs.Records.{standInRange, placeInRange, stateInRange};
+ghost use Rattle.machine.specs.Grid.{pointAccess};
+ghost use Rattle.machine.specs.Turn.{standAccess, placeAccess, turnAccess, releaseAccess, opShown, shownBy};
 
 // The task's own mark in the block at (r, c) becomes `value`.
 fn own_mark(s: Settings, task: TaskId, r: u8, c: u8, value: u32) -> Access
@@ -62,6 +65,26 @@ fn point_access(s: Settings, task: TaskId, r: u8, c: u8, point: Point) -> Access
     }
 }
 
+// The register that a turn touches, from where the task stands.
+fn stand_access(s: Settings, task: TaskId, stand: Stand) -> Access
+    requires { ⌜ T (permitted s) × T (standInRange s stand) ⌝ }
+    ensures { λ access. ⌜ access ≡ standAccess s (task .0) stand ⌝ }
+{
+    let point = stand.point;
+    point_access(s, task, stand.r, stand.c, point)
+}
+
+// The register that is touched where a place is given up: the own mark of a block, none on the edge.
+fn place_access(s: Settings, task: TaskId, place: Place) -> Access
+    requires { ⌜ T (permitted s) × T (placeInRange s place) ⌝ }
+    ensures { λ access. ⌜ access ≡ placeAccess s (task .0) place ⌝ }
+{
+    if place.r + place.c + 2 <= s.k {
+        return own_mark(s, task, place.r, place.c, 0);
+    }
+    Access::NoAccess
+}
+
 // The register that a turn touches: none where the task does not seek.
 pub fn turn_access(s: Settings, task: TaskId, this: Record) -> Access
     requires { ⌜ T (permitted s) × T (stateInRange s (this .state)) ⌝ }
@@ -70,13 +93,12 @@ pub fn turn_access(s: Settings, task: TaskId, this: Record) -> Access
     let state = this.state;
     match state {
         State::Idle => Access::NoAccess,
-        State::Seeking { r, c, point } => point_access(s, task, r, c, point),
-        State::Holding { .. } => Access::NoAccess,
+        State::Seeking(stand) => stand_access(s, task, stand),
+        State::Holding(_) => Access::NoAccess,
     }
 }
 
-// The register that a release touches: the own mark of a block, and none on the edge or where the
-// task does not hold.
+// The register that a release touches: none where the task does not hold.
 pub fn release_access(s: Settings, task: TaskId, this: Record) -> Access
     requires { ⌜ T (permitted s) × T (stateInRange s (this .state)) ⌝ }
     ensures { λ access. ⌜ access ≡ releaseAccess s (task .0) (this .state) ⌝ }
@@ -84,13 +106,8 @@ pub fn release_access(s: Settings, task: TaskId, this: Record) -> Access
     let state = this.state;
     match state {
         State::Idle => Access::NoAccess,
-        State::Seeking { .. } => Access::NoAccess,
-        State::Holding { r, c } => {
-            if r + c + 2 <= s.k {
-                return own_mark(s, task, r, c, 0);
-            }
-            Access::NoAccess
-        }
+        State::Seeking(_) => Access::NoAccess,
+        State::Holding(place) => place_access(s, task, place),
     }
 }
 

@@ -3,6 +3,7 @@ pub mod Numbering
 pub mod Numbers
 pub mod Turning
 pub mod Arriving
+pub mod Outs
 pub mod AsGrid
 pub mod Steps
 pub mod Spending

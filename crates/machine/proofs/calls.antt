@@ -6,7 +6,9 @@ pub mod Rules
 pub mod OneAccess
 pub mod Effects
 pub mod Surplus
+pub mod After
 pub mod Telling
 pub mod Lent
 pub mod Fitting
 pub mod Outcomes
+pub mod Spending

@@ -1,12 +1,12 @@
 -- 01, "Rules of the grid", and 02, P4, P6 and P7: setup, ask, turn and release, from the memory before to the answer
 -- and the memory after.
 use Prim.Native.Nat.{ℕ}
-use Rattle.machine.specs.Places.{blocks, nameNumber}
+use Rattle.machine.specs.Places.{blocks, placeName}
 use Rattle.machine.specs.Memory.{Memory, marksNeeded, stateOf, turnsIn, viewOf, withRecord, fill}
 use Rattle.machine.specs.Turn.{access, value, store, shownBy, next, turnsAfter}
 use Rattle.machine.specs.{Refusals.{setupVerdict, verdict}, Answers.plain}
 use Rattle.machine.specs.declared.{Settings.Settings, Name.Name, Record.Record}
-use Rattle.machine.specs.declared.State.{State, the-variants.{Idle, Seeking, Holding}}
+use Rattle.machine.specs.declared.{Place.Place, State.{State, the-variants.{Idle, Seeking, Holding}}}
 use Rattle.machine.specs.declared.{Kind.{Kind, the-variants.{Ask, Turn, Release}}, Event.Event, Verdict.Verdict}
 use Rattle.machine.specs.declared.{Shown.Shown, Told.Told, Answer.Answer}
 
@@ -27,21 +27,21 @@ turn p = eventOf Turn p
 abbrev pub release : ℕ → Event
 release p = eventOf Release p
 
--- the name at (r, c)
-abbrev pub nameAt : Settings → ℕ → ℕ → Name
-nameAt s r c = record { 0 = nameNumber s r c }
+-- the name of a place
+abbrev pub nameAt : Settings → Place → Name
+nameAt s place = record { 0 = placeName s place }
 
 -- "seeks", or "holds" with the name
 abbrev pub standing : Settings → State → Told
 standing s Idle = Told.Seeks
-standing s (Seeking r c point) = Told.Seeks
-standing s (Holding r c) = Told.Holds (nameAt s r c)
+standing s (Seeking stand) = Told.Seeks
+standing s (Holding place) = Told.Holds (nameAt s place)
 
 -- the freed name
 abbrev pub freed : Settings → State → Told
 freed s Idle = Told.Seeks
-freed s (Seeking r c point) = Told.Seeks
-freed s (Holding r c) = Told.Freed (nameAt s r c)
+freed s (Seeking stand) = Told.Seeks
+freed s (Holding place) = Told.Freed (nameAt s place)
 
 -- what an accepted call tells, from the record before and the record after
 abbrev pub toldOf : Settings → Kind → State → State → Told

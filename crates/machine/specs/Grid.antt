@@ -3,7 +3,7 @@
 use mathlib.Core.Bool.{cond}
 use Prim.Native.Nat.{ℕ, _+_}
 use lib.Dec.{eqb, leb}
-use Rattle.machine.specs.{Settings.{width, own}, Places.blockNumber}
+use Rattle.machine.specs.{Settings.{width, own}, Places.{blockNumber, block, cell}}
 use Rattle.machine.specs.declared.{Settings.Settings, Direction.{Direction, the-variants.{Right, Down}}}
 use Rattle.machine.specs.declared.Point.{Point, the-variants.{WriteX, Scan, WriteMark, ReadX, Clear}}
 use Rattle.machine.specs.declared.State.{State, the-variants.{Seeking, Holding}}
@@ -29,7 +29,7 @@ cellAccess s p r c =
 
 -- a task that comes to a place holds it on the edge, r+c = k-1, and stands at write X on a block
 abbrev pub arrive : Settings → ℕ → ℕ → State
-arrive s r c = cond (eqb (r + c + 1) (s .k)) (Holding r c) (Seeking r c WriteX)
+arrive s r c = cond (eqb (r + c + 1) (s .k)) (Holding (cell r c)) (Seeking (block r c WriteX))
 
 -- right adds 1 to c, down to r
 abbrev pub move : Settings → ℕ → ℕ → Direction → State
@@ -38,14 +38,14 @@ move s r c Down = arrive s (r + 1) c
 
 -- a task that must move does so at once one-time, and first clears its mark long-lived
 abbrev pub leave : Settings → ℕ → ℕ → Direction → State
-leave s r c direction = cond (eqb (s .mode) 0) (move s r c direction) (Seeking r c (Clear direction))
+leave s r c direction = cond (eqb (s .mode) 0) (move s r c direction) (Seeking (block r c (Clear direction)))
 
 -- the turn of task p at a point of the block at (r, c), where v is the value read
 abbrev pub pointTurned : Settings → ℕ → ℕ → ℕ → Point → ℕ → State
-pointTurned s p r c WriteX v = Seeking r c (Scan 0)
+pointTurned s p r c WriteX v = Seeking (block r c (Scan 0))
 pointTurned s p r c (Scan h) v =
     cond (eqb v 1) (leave s r c Right)
-    (cond (eqb (h + 1) (width s)) (Seeking r c WriteMark) (Seeking r c (Scan (h + 1))))
-pointTurned s p r c WriteMark v = Seeking r c ReadX
-pointTurned s p r c ReadX v = cond (eqb v (p + 1)) (Holding r c) (leave s r c Down)
+    (cond (eqb (h + 1) (width s)) (Seeking (block r c WriteMark)) (Seeking (block r c (Scan (h + 1)))))
+pointTurned s p r c WriteMark v = Seeking (block r c ReadX)
+pointTurned s p r c ReadX v = cond (eqb v (p + 1)) (Holding (cell r c)) (leave s r c Down)
 pointTurned s p r c (Clear direction) v = move s r c direction

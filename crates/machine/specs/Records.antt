@@ -5,6 +5,7 @@ use lib.Dec.{eqb, leb, ltb}
 use Rattle.machine.specs.Settings.{width, bound}
 use Rattle.machine.specs.declared.Settings.{Settings}
 use Rattle.machine.specs.declared.Point.{Point, the-variants.{WriteX, Scan, WriteMark, ReadX, Clear}}
+use Rattle.machine.specs.declared.{Stand.Stand, Place.Place}
 use Rattle.machine.specs.declared.{State.{State, the-variants.{Idle, Seeking, Holding}}, Record.Record}
 
 abbrev pub idle : Record
@@ -12,18 +13,18 @@ idle = record { state = Idle; turns = 0 }
 
 abbrev pub isIdle : State → Bool
 isIdle Idle = true
-isIdle (Seeking r c point) = false
-isIdle (Holding r c) = false
+isIdle (Seeking stand) = false
+isIdle (Holding place) = false
 
 abbrev pub isSeeking : State → Bool
 isSeeking Idle = false
-isSeeking (Seeking r c point) = true
-isSeeking (Holding r c) = false
+isSeeking (Seeking stand) = true
+isSeeking (Holding place) = false
 
 abbrev pub isHolding : State → Bool
 isHolding Idle = false
-isHolding (Seeking r c point) = false
-isHolding (Holding r c) = true
+isHolding (Seeking stand) = false
+isHolding (Holding place) = true
 
 -- a task is out while it seeks or holds
 abbrev pub isOut : State → Bool
@@ -38,16 +39,22 @@ pointInRange s ReadX = true
 pointInRange s (Clear direction) = eqb (s .mode) 1
 
 -- seeking with r+c ≤ k-2, holding with r+c ≤ k-1
+abbrev pub standInRange : Settings → Stand → Bool
+standInRange s stand = leb (stand .r + stand .c + 2) (s .k) && pointInRange s (stand .point)
+
+abbrev pub placeInRange : Settings → Place → Bool
+placeInRange s place = leb (place .r + place .c + 1) (s .k)
+
 abbrev pub stateInRange : Settings → State → Bool
 stateInRange s Idle = true
-stateInRange s (Seeking r c point) = leb (r + c + 2) (s .k) && pointInRange s point
-stateInRange s (Holding r c) = leb (r + c + 1) (s .k)
+stateInRange s (Seeking stand) = standInRange s stand
+stateInRange s (Holding place) = placeInRange s place
 
 -- the turns used: below the bound while the task seeks, at most the bound while it holds, none while it is idle
 abbrev pub turnsInRange : Settings → State → ℕ → Bool
 turnsInRange s Idle turns = eqb turns 0
-turnsInRange s (Seeking r c point) turns = ltb turns (bound s)
-turnsInRange s (Holding r c) turns = leb turns (bound s)
+turnsInRange s (Seeking stand) turns = ltb turns (bound s)
+turnsInRange s (Holding place) turns = leb turns (bound s)
 
 abbrev pub recordInRange : Settings → Record → Bool
 recordInRange s this = stateInRange s (this .state) && turnsInRange s (this .state) (this .turns)

@@ -63,8 +63,8 @@ wrongMoment Release state = not (isHolding state)
 -- 15 to 17, by what the task is at then
 abbrev pub moment : State → Refusal
 moment Idle = TaskIdle
-moment (Seeking r c point) = TaskSeeks
-moment (Holding r c) = TaskHolds
+moment (Seeking stand) = TaskSeeks
+moment (Holding place) = TaskHolds
 
 -- 7: ask when k or more tasks are out
 abbrev pub tooManyOut : Settings → Kind → ℕ → Bool

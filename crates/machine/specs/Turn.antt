@@ -6,6 +6,7 @@ use Prim.Native.Nat.{ℕ, _+_}
 use Rattle.machine.specs.{Memory.{Memory, content, put}, Grid.{pointAccess, cellAccess, arrive, pointTurned}}
 use Rattle.machine.specs.declared.{Settings.Settings, Record.Record}
 use Rattle.machine.specs.declared.State.{State, the-variants.{Idle, Seeking, Holding}}
+use Rattle.machine.specs.declared.{Stand.Stand, Place.Place}
 use Rattle.machine.specs.declared.{Register.Register, Op.{Op, the-variants.{Read, Write}}}
 use Rattle.machine.specs.declared.{Access.{Access, the-variants.{NoAccess, Touch}}, Letter.the-variants.{R, W}}
 use Rattle.machine.specs.declared.Shown.{Shown, the-variants.{Nothing, Touched}}
@@ -13,17 +14,24 @@ use Rattle.machine.specs.declared.Kind.{Kind, the-variants.{Ask, Turn, R
 
 -- ---- which register a call touches
 
--- a turn makes the access of its point; a task that does not seek has none to make
+-- by where a seeking task stands, and by what a holding task gives up
+abbrev pub standAccess : Settings → ℕ → Stand → Access
+standAccess s p stand = pointAccess s p (stand .r) (stand .c) (stand .point)
+
+abbrev pub placeAccess : Settings → ℕ → Place → Access
+placeAccess s p place = cellAccess s p (place .r) (place .c)
+
+-- a turn makes the access of its stand; a task that does not seek has none to make
 abbrev pub turnAccess : Settings → ℕ → State → Access
 turnAccess s p Idle = NoAccess
-turnAccess s p (Seeking r c point) = pointAccess s p r c point
-turnAccess s p (Holding r c) = NoAccess
+turnAccess s p (Seeking stand) = standAccess s p stand
+turnAccess s p (Holding place) = NoAccess
 
 -- a release makes the access of its place
 abbrev pub releaseAccess : Settings → ℕ → State → Access
 releaseAccess s p Idle = NoAccess
-releaseAccess s p (Seeking r c point) = NoAccess
-releaseAccess s p (Holding r c) = cellAccess s p r c
+releaseAccess s p (Seeking stand) = NoAccess
+releaseAccess s p (Holding place) = placeAccess s p place
 
 abbrev pub access : Settings → Kind → ℕ → State → Access
 access s Ask p state = NoAccess
@@ -71,14 +79,22 @@ shownBy (Touch register op) v = opShown op register v
 
 -- ---- the next record
 
+-- where a task comes from its stand, where v is the value read
+abbrev pub standTurned : Settings → ℕ → Stand → ℕ → State
+standTurned s p stand v = pointTurned s p (stand .r) (stand .c) (stand .point) v
+
 abbrev pub turned : Settings → ℕ → State → ℕ → State
 turned s p Idle v = Idle
-turned s p (Seeking r c point) v = pointTurned s p r c point v
-turned s p (Holding r c) v = Holding r c
+turned s p (Seeking stand) v = standTurned s p stand v
+turned s p (Holding place) v = Holding place
 
--- an ask comes to (0, 0) [5.1], which with k = 1 is the edge; a release leaves the task idle
+-- where a task begins: an ask comes to (0, 0) [5.1], which with k = 1 is the edge
+abbrev pub begin : Settings → State
+begin s = arrive s 0 0
+
+-- a release leaves the task idle
 abbrev pub next : Settings → Kind → ℕ → State → ℕ → State
-next s Ask p state v = arrive s 0 0
+next s Ask p state v = begin s
 next s Turn p state v = turned s p state v
 next s Release p state v = Idle
 
@@ -86,8 +102,8 @@ next s Release p state v = Idle
 abbrev pub turnsAfter : Kind → State → ℕ → ℕ
 turnsAfter Ask state turns = 0
 turnsAfter Turn Idle turns = turns
-turnsAfter Turn (Seeking r c point) turns = turns + 1
-turnsAfter Turn (Holding r c) turns = turns
+turnsAfter Turn (Seeking stand) turns = turns + 1
+turnsAfter Turn (Holding place) turns = turns
 turnsAfter Release state turns = 0
 
 -- the record that a call leaves, where v is the value read

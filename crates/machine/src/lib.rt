@@ -2,12 +2,12 @@
 // one step of a task's record. Every definition that a contract cites is in `specs/`.
 
 ghost use mathlib.Core.Path.{_≡_};
-ghost use Prim.Native.Nat.{_+_, _≤_};
+ghost use Prim.Native.Nat.{_+_, _≤_, _<_};
 ghost use lib.Dec.{T};
 ghost use Rattle.machine.specs.Answers.{numberOf};
-ghost use Rattle.machine.specs.Settings.{width, bound};
-ghost use Rattle.machine.specs.Records.{pointInRange, recordInRange};
-ghost use Rattle.machine.specs.{Grid.{arrive, move, leave, pointTurned}, Turn.nextRecord};
+ghost use Rattle.machine.specs.{Settings.{width, bound}, Places.block};
+ghost use Rattle.machine.specs.Records.{pointInRange, standInRange, recordInRange};
+ghost use Rattle.machine.specs.{Grid.{arrive, move, leave, pointTurned}, Turn.{standTurned, nextRecord}};
 
 // Mode 0 is one-time, mode 1 long-lived. There are n tasks, of which at most k are out at once. Names
 // are numbered by rows in version 1 and by diagonals in version 2.
@@ -39,11 +39,24 @@ pub enum Point {
     Clear(Direction),
 }
 
-// A task is idle, seeks at the block in row r and column c, or holds the place there.
+// Where a seeking task stands: at a point of the block in row r and column c.
+pub struct Stand {
+    pub r: u8,
+    pub c: u8,
+    pub point: Point,
+}
+
+// What a holding task holds: the cell in row r and column c.
+pub struct Place {
+    pub r: u8,
+    pub c: u8,
+}
+
+// A task is idle, seeks where it stands, or holds a place.
 pub enum State {
     Idle,
-    Seeking { r: u8, c: u8, point: Point },
-    Holding { r: u8, c: u8 },
+    Seeking(Stand),
+    Holding(Place),
 }
 
 // A task's record, as it stands in the lent row: where the task is, and the accepted turns that it has
@@ -206,6 +219,17 @@ impl Refusal {
     }
 }
 
+// A task seeks at a point of the block at (r, c).
+fn seeking(r: u8, c: u8, point: Point) -> State
+    ensures { λ to. ⌜ to ≡ State.Seeking (block r c point) ⌝ }
+{
+    State::Seeking(Stand {
+        r: r,
+        c: c,
+        point: point,
+    })
+}
+
 impl Settings {
     // The most own turns that an acquisition takes, for any settings: (N+4)(k-1) long-lived, 4(k-1)
     // one-time.
@@ -238,13 +262,9 @@ impl Settings {
         ensures { λ to. ⌜ to ≡ arrive self r c ⌝ }
     {
         if r + c + 1 == self.k {
-            return State::Holding { r: r, c: c };
+            return State::Holding(Place { r: r, c: c });
         }
-        State::Seeking {
-            r: r,
-            c: c,
-            point: Point::WriteX,
-        }
+        seeking(r, c, Point::WriteX)
     }
 
     // One place to the right or down.
@@ -266,11 +286,33 @@ impl Settings {
         if self.mode == 0 {
             return self.moved(r, c, direction);
         }
-        State::Seeking {
-            r: r,
-            c: c,
-            point: Point::Clear(direction),
+        seeking(r, c, Point::Clear(direction))
+    }
+
+    // A scan read v at the mark h of the block.
+    fn scanned(self, task: TaskId, r: u8, c: u8, h: u16, v: u32) -> State
+        requires { ⌜ (r + c + 2 ≤ self .k) × (h < width self) ⌝ }
+        ensures { λ to. ⌜ to ≡ pointTurned self (task .0) r c (Point.Scan h) v ⌝ }
+    {
+        if v == 1 {
+            return self.leave(r, c, Direction::Right);
         }
+        let width = self.width();
+        if h + 1 == width {
+            return seeking(r, c, Point::WriteMark);
+        }
+        seeking(r, c, Point::Scan(h + 1))
+    }
+
+    // X was read as v: the task holds the block if X is its own.
+    fn own_read(self, task: TaskId, r: u8, c: u8, v: u32) -> State
+        requires { ⌜ r + c + 2 ≤ self .k ⌝ }
+        ensures { λ to. ⌜ to ≡ pointTurned self (task .0) r c Point.ReadX v ⌝ }
+    {
+        if v == task.0 as u32 + 1 {
+            return State::Holding(Place { r: r, c: c });
+        }
+        self.leave(r, c, Direction::Down)
     }
 
     // The turn of a task that seeks in the block at (r, c), where v is the value that it read.
@@ -279,42 +321,21 @@ impl Settings {
         ensures { λ to. ⌜ to ≡ pointTurned self (task .0) r c point v ⌝ }
     {
         match point {
-            Point::WriteX => State::Seeking {
-                r: r,
-                c: c,
-                point: Point::Scan(0),
-            },
-            Point::Scan(h) => {
-                if v == 1 {
-                    return self.leave(r, c, Direction::Right);
-                }
-                let width = self.width();
-                if h + 1 == width {
-                    return State::Seeking {
-                        r: r,
-                        c: c,
-                        point: Point::WriteMark,
-                    };
-                }
-                State::Seeking {
-                    r: r,
-                    c: c,
-                    point: Point::Scan(h + 1),
-                }
-            }
-            Point::WriteMark => State::Seeking {
-                r: r,
-                c: c,
-                point: Point::ReadX,
-            },
-            Point::ReadX => {
-                if v == task.0 as u32 + 1 {
-                    return State::Holding { r: r, c: c };
-                }
-                self.leave(r, c, Direction::Down)
-            }
+            Point::WriteX => seeking(r, c, Point::Scan(0)),
+            Point::Scan(h) => self.scanned(task, r, c, h, v),
+            Point::WriteMark => seeking(r, c, Point::ReadX),
+            Point::ReadX => self.own_read(task, r, c, v),
             Point::Clear(direction) => self.moved(r, c, direction),
         }
+    }
+
+    // The turn of a seeking task, from where it stands.
+    fn stand_turned(self, task: TaskId, stand: Stand, v: u32) -> State
+        requires { ⌜ T (standInRange self stand) ⌝ }
+        ensures { λ to. ⌜ to ≡ standTurned self (task .0) stand v ⌝ }
+    {
+        let point = stand.point;
+        self.turned(task, stand.r, stand.c, point, v)
     }
 }
 
@@ -328,11 +349,11 @@ impl Record {
         let state = self.state;
         match state {
             State::Idle => self,
-            State::Seeking { r, c, point } => Record {
-                state: s.turned(task, r, c, point, v),
+            State::Seeking(stand) => Record {
+                state: s.stand_turned(task, stand, v),
                 turns: self.turns + 1,
             },
-            State::Holding { r: _, c: _ } => self,
+            State::Holding(_) => self,
         }
     }
 }

@@ -11,6 +11,7 @@ use machine::Direction;
 use machine::Event;
 use machine::Kind;
 use machine::Letter;
+use machine::Place;
 use machine::Point;
 use machine::Record;
 use machine::Refusal;
@@ -18,6 +19,7 @@ use machine::Register;
 use machine::Row;
 use machine::Settings;
 use machine::Shown;
+use machine::Stand;
 use machine::State;
 use machine::TaskId;
 use machine::Told;
@@ -88,13 +90,13 @@ fn state_at(input: &[u8], at: usize) -> State {
     let r = byte(input, past(at, 1));
     let c = byte(input, past(at, 2));
     if state == 2 {
-        return State::Holding { r: r, c: c };
+        return State::Holding(Place { r: r, c: c });
     }
-    State::Seeking {
+    State::Seeking(Stand {
         r: r,
         c: c,
         point: point_at(input, past(at, 3)),
-    }
+    })
 }
 
 fn point_at(input: &[u8], at: usize) -> Point {
@@ -406,16 +408,17 @@ fn say_record(one: Record) {
     let state = one.state;
     match state {
         State::Idle => say_idle(one.turns),
-        State::Seeking { r, c, point } => {
+        State::Seeking(stand) => {
             say(b" seek/");
-            say_place(r, c);
+            say_place(stand.r, stand.c);
             say(b"/");
+            let point = stand.point;
             say_point(point);
             say_turns(one.turns);
         }
-        State::Holding { r, c } => {
+        State::Holding(place) => {
             say(b" hold/");
-            say_place(r, c);
+            say_place(place.r, place.c);
             say_turns(one.turns);
         }
     }

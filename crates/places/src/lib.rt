@@ -2,6 +2,7 @@
 // numbers of places. The formula of the triangle by rows is said once, in `place_number`.
 
 use machine::Name;
+use machine::Place;
 use machine::Settings;
 use machine::TaskId;
 ghost use mathlib.Core.Path.{_≡_};
@@ -11,7 +12,7 @@ ghost use Rattle.machine.specs.Settings.{knownVersion, permitted, width, own};
 ghost use Rattle.grid.specs.Triangle.{half, placeNumber, diagonalNumber};
 ghost use Rattle.machine.specs.Places.{blocks, blockNumber, names};
 ghost use Rattle.machine.specs.Memory.{marksNeeded, markIndex};
-ghost use Rattle.machine.specs.Calls.{nameAt};
+ghost use Rattle.machine.specs.{Records.placeInRange, Calls.nameAt};
 
 // Whether there is such a version.
 pub fn known_version(version: u16) -> bool
@@ -128,16 +129,16 @@ fn diagonal_number(r: u8, c: u8) -> usize
     half(r as usize + c as usize + 1) + r as usize
 }
 
-// The name at (r, c): the places that can be held are the triangle of side k, numbered by rows in
+// The name of a place: the places that can be held are the triangle of side k, numbered by rows in
 // version 1 and by diagonals in version 2.
-pub fn name_at(s: Settings, r: u8, c: u8) -> Name
-    requires { ⌜ T (permitted s) × (r + c + 1 ≤ s .k) ⌝ }
-    ensures { λ name. ⌜ name ≡ nameAt s r c ⌝ }
+pub fn name_at(s: Settings, place: Place) -> Name
+    requires { ⌜ T (permitted s) × T (placeInRange s place) ⌝ }
+    ensures { λ name. ⌜ name ≡ nameAt s place ⌝ }
 {
     if s.version == 1 {
-        return Name(place_number(s, 0, r, c) as u16);
+        return Name(place_number(s, 0, place.r, place.c) as u16);
     }
-    Name(diagonal_number(r, c) as u16)
+    Name(diagonal_number(place.r, place.c) as u16)
 }
 
 // Where a mark of a block stands in the row of marks, block after block.

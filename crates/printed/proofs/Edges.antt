@@ -99,8 +99,8 @@ last-identifier s lent ok all = (
   where
     standing-accepted : (t : Settings) (state : State) → T (toldAccepted (standing t state))
     standing-accepted t Idle = tt
-    standing-accepted t (Seeking r c point) = tt
-    standing-accepted t (Holding r c) = tt
+    standing-accepted t (Seeking stand) = tt
+    standing-accepted t (Holding place) = tt
 
 one-time-release : (s : Settings) (m : Memory) → s .mode ≡ 0 → WithinLimits s → Fit s m → (p : ℕ) → p < s .n
     → Refuses 5 (call s (release p) m .answer)

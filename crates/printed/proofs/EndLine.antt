@@ -12,6 +12,7 @@ use Rattle.machine.specs.Answers.{isAccepted}
 use Rattle.machine.specs.{Calls.{Outcome, nameAt, toldOf, call, setup}, History.{Answered, counted, turnsOf}}
 use Rattle.machine.specs.{Settings.bound, promises.Refusing.tasksOut}
 use Rattle.machine.specs.promises.{Demands.{memoryAfter, historyOf, used, HoldsSome}, OneAccess.AcceptedIn}
+use Rattle.machine.specs.Places.{cell}
 use Rattle.machine.specs.declared.{Settings.Settings, Name.Name, State.{State, the-variants.{Idle, Seeking, Holding}}}
 use Rattle.machine.specs.declared.{Kind.{Kind, the-variants.{Ask, Turn, Release}}, Event.Event, Told.Told}
 use Rattle.machine.specs.declared.Answer.{Answer}
@@ -124,16 +125,16 @@ module _ (s : Settings) (name : Name) where
   -- who is answered that it holds does so in the record that the call leaves
   standing-held : (after : State) → calls.standing s after ≡ Told.Holds name → T (isHolding after)
   standing-held Idle e = absurd (not-held Told.Seeks refl e)
-  standing-held (Seeking r c point) e = absurd (not-held Told.Seeks refl e)
-  standing-held (Holding r c) e = tt
+  standing-held (Seeking stand) e = absurd (not-held Told.Seeks refl e)
+  standing-held (Holding place) e = tt
 
   answer-held : (kind : Kind) (before after : State) → toldOf s kind before after ≡ Told.Holds name
       → T (isHolding after)
   answer-held Ask before after e = standing-held after e
   answer-held Turn before after e = standing-held after e
   answer-held Release Idle after e = absurd (not-held Told.Seeks refl e)
-  answer-held Release (Seeking r c point) after e = absurd (not-held Told.Seeks refl e)
-  answer-held Release (Holding r c) after e = absurd (not-held (Told.Freed (nameAt s r c)) refl e)
+  answer-held Release (Seeking stand) after e = absurd (not-held Told.Seeks refl e)
+  answer-held Release (Holding place) after e = absurd (not-held (Told.Freed (nameAt s place)) refl e)
 
   held-after : (event : Event) (m : Memory) → call s event m .answer .told ≡ Told.Holds name
       → HoldsSome (call s event m .memory) (event .task .0)

@@ -11,6 +11,7 @@ use Rattle.machine.specs.{Calls.{Outcome, eventOf, toldOf, nextState, accept, s
 use Rattle.machine.specs.promises.{Demands.SetUp, Ranges.WithinLimits}
 use Rattle.machine.specs.declared.{Settings.Settings, Direction.the-variants.Right}
 use Rattle.machine.specs.declared.Point.the-variants.{WriteX, Scan, WriteMark, ReadX}
+use Rattle.machine.specs.Places.{block, cell}
 use Rattle.machine.specs.declared.State.{State, the-variants.{Idle, Seeking, Holding}}
 use Rattle.machine.specs.declared.{Kind.{Kind, the-variants.{Ask, Turn}}, Event.Event, Told.Told}
 use Rattle.machine.proofs.calls.Fresh.{setup-within, fresh-idle, fresh-none-out}
@@ -60,7 +61,7 @@ module _ (s : Settings) (lent : Memory) (ok : SetUp s lent) (one-time : s .mode 
   fair = setup-within s lent ok
 
   abbrev start : State
-  start = Seeking 0 0 WriteX
+  start = Seeking (block 0 0 WriteX)
 
   -- the memory after each call
   abbrev m₀ : Memory
@@ -73,13 +74,13 @@ module _ (s : Settings) (lent : Memory) (ok : SetUp s lent) (one-time : s .mode 
   m₂ = accept s Turn p start m₁ .memory
 
   abbrev m₃ : Memory
-  m₃ = accept s Turn p (Seeking 0 0 (Scan 0)) m₂ .memory
+  m₃ = accept s Turn p (Seeking (block 0 0 (Scan 0))) m₂ .memory
 
   abbrev m₄ : Memory
-  m₄ = accept s Turn p (Seeking 0 0 WriteMark) m₃ .memory
+  m₄ = accept s Turn p (Seeking (block 0 0 WriteMark)) m₃ .memory
 
   abbrev m₅ : Memory
-  m₅ = accept s Turn p (Seeking 0 0 ReadX) m₄ .memory
+  m₅ = accept s Turn p (Seeking (block 0 0 ReadX)) m₄ .memory
 
   abbrev m₆ : Memory
   m₆ = accept s Ask q Idle m₅ .memory
@@ -104,25 +105,25 @@ module _ (s : Settings) (lent : Memory) (ok : SetUp s lent) (one-time : s .mode 
   writes : Took s fair Turn p start m₁
   writes = turn-took p 0 0 WriteX m₁ (asks .fine) lp (asks .its ∙ at-start)
 
-  scans : Took s fair Turn p (Seeking 0 0 (Scan 0)) m₂
+  scans : Took s fair Turn p (Seeking (block 0 0 (Scan 0))) m₂
   scans = turn-took p 0 0 (Scan 0) m₂ (writes .fine) lp (writes .its)
 
   -- setup left the mark 0
-  unmarked : nextState s Turn p (Seeking 0 0 (Scan 0)) m₂ ≡ Seeking 0 0 WriteMark
+  unmarked : nextState s Turn p (Seeking (block 0 0 (Scan 0))) m₂ ≡ Seeking (block 0 0 WriteMark)
   unmarked =
       let v = getD (m₂ .marks) (markIndex s (blockNumber s 0 0) 0) 0 in
       let e : v ≡ 0 = sym (mark-on-block s (m₀ .marks) 0 0 0 (omega arith) (omega (arith, one-wide)))
       ∙ fresh-unmarked s lent ok 0 0 0 in
       sym (scan-done s p 0 0 0 v (λ z. omega arith) (omega (arith, one-wide)))
 
-  marks : Took s fair Turn p (Seeking 0 0 WriteMark) m₃
+  marks : Took s fair Turn p (Seeking (block 0 0 WriteMark)) m₃
   marks = turn-took p 0 0 WriteMark m₃ (scans .fine) lp (scans .its ∙ unmarked)
 
-  reads : Took s fair Turn p (Seeking 0 0 ReadX) m₄
+  reads : Took s fair Turn p (Seeking (block 0 0 ReadX)) m₄
   reads = turn-took p 0 0 ReadX m₄ (marks .fine) lp (marks .its)
 
   -- X is still what the task wrote
-  own-x : nextState s Turn p (Seeking 0 0 ReadX) m₄ ≡ Holding 0 0
+  own-x : nextState s Turn p (Seeking (block 0 0 ReadX)) m₄ ≡ Holding (cell 0 0)
   own-x =
       let put = x-put s fair m₁ m₂ 0 0 (p + 1) (omega arith) (asks .fine .invariants .fit .long .xs) refl in
       sym (reads-own s p 0 0 (getD (m₄ .xs) (blockNumber s 0 0) 0)
@@ -145,11 +146,11 @@ module _ (s : Settings) (lent : Memory) (ok : SetUp s lent) (one-time : s .mode 
   writes-later : Took s fair Turn q start m₆
   writes-later = turn-took q 0 0 WriteX m₆ (asks-later .fine) lq (asks-later .its ∙ at-start)
 
-  scans-later : Took s fair Turn q (Seeking 0 0 (Scan 0)) m₇
+  scans-later : Took s fair Turn q (Seeking (block 0 0 (Scan 0))) m₇
   scans-later = turn-took q 0 0 (Scan 0) m₇ (writes-later .fine) lq (writes-later .its)
 
   -- the mark is set: q goes right, to the edge
-  marked : nextState s Turn q (Seeking 0 0 (Scan 0)) m₇ ≡ Holding 0 1
+  marked : nextState s Turn q (Seeking (block 0 0 (Scan 0))) m₇ ≡ Holding (cell 0 1)
   marked =
       let put = mark-put s fair m₃ m₄ 0 0 0 1 (omega arith) (omega (arith, one-wide))
       (scans .fine .invariants .fit .long .marks)
@@ -162,13 +163,13 @@ module _ (s : Settings) (lent : Memory) (ok : SetUp s lent) (one-time : s .mode 
   all-heard : Heard s (acquires p 4 ++ acquires q 2) m₀ (servedAt 4 (nameNumber s 0 0) ++ servedAt 2 (nameNumber s 0 1))
   all-heard =
       heard start asks at-start
-      (heard (Seeking 0 0 (Scan 0)) writes refl
-      (heard (Seeking 0 0 WriteMark) scans unmarked
-      (heard (Seeking 0 0 ReadX) marks refl
-      (heard (Holding 0 0) reads own-x
+      (heard (Seeking (block 0 0 (Scan 0))) writes refl
+      (heard (Seeking (block 0 0 WriteMark)) scans unmarked
+      (heard (Seeking (block 0 0 ReadX)) marks refl
+      (heard (Holding (cell 0 0)) reads own-x
       (heard start asks-later at-start
-      (heard (Seeking 0 0 (Scan 0)) writes-later refl
-      (heard (Holding 0 1) scans-later marked heard-nothing)))))))
+      (heard (Seeking (block 0 0 (Scan 0))) writes-later refl
+      (heard (Holding (cell 0 1)) scans-later marked heard-nothing)))))))
 
 pub one-time-pair : OneTimePair
 one-time-pair s lent ok one-time two p q lp lq d =

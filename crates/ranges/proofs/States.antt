@@ -1,14 +1,14 @@
--- When a seeking state is in range.
+-- When a stand is in range.
 use mathlib.Core.{Path._≡_, Bool.false}
-use Prim.Native.Nat.{ℕ, _+_, _≤_, _<_}
+use Prim.Native.Nat.{_+_, _≤_, _<_}
 use borrow.Author.Tests.{le-leb, lt-leb}
-use Rattle.machine.specs.Records.{pointInRange, stateInRange}
-use Rattle.machine.specs.declared.{Settings.Settings, Point.Point, State.the-variants.Seeking}
+use Rattle.machine.specs.Records.{pointInRange, standInRange}
+use Rattle.machine.specs.declared.{Settings.Settings, Stand.Stand}
 
-module _ (s : Settings) (r c : ℕ) (point : Point) where
+module _ (s : Settings) (stand : Stand) where
   -- who seeks off the blocks is out of range, and on a block goes by the point
-  pub seeks-off-blocks : s .k < r + c + 2 → false ≡ stateInRange s (Seeking r c point)
-  seeks-off-blocks off = rw (lt-leb (r + c + 2) (s .k) off)
+  pub seeks-off-blocks : s .k < stand .r + stand .c + 2 → false ≡ standInRange s stand
+  seeks-off-blocks off = rw (lt-leb (stand .r + stand .c + 2) (s .k) off)
 
-  pub seeks-by-point : r + c + 2 ≤ s .k → pointInRange s point ≡ stateInRange s (Seeking r c point)
-  seeks-by-point on = rw (le-leb (r + c + 2) (s .k) on)
+  pub seeks-by-point : stand .r + stand .c + 2 ≤ s .k → pointInRange s (stand .point) ≡ standInRange s stand
+  seeks-by-point on = rw (le-leb (stand .r + stand .c + 2) (s .k) on)

@@ -1,12 +1,15 @@
 // What every call tests of each record in the row: whether it is in range, and whether its task is
 // out.
 
+use machine::Place;
 use machine::Point;
 use machine::Record;
 use machine::Settings;
+use machine::Stand;
 use machine::State;
 ghost use mathlib.Core.Path.{_≡_};
-ghost use Rattle.machine.specs.Records.{pointInRange, stateInRange, turnsInRange, recordInRange, isOut};
+ghost use Rattle.machine.specs.Records.{pointInRange, standInRange, placeInRange, stateInRange};
+ghost use Rattle.machine.specs.Records.{turnsInRange, recordInRange, isOut};
 
 // Whether a seeking task may stand at the point: a scan at one of the block's marks, a clear
 // long-lived only.
@@ -22,19 +25,32 @@ fn point_in_range(s: Settings, point: Point) -> bool
     }
 }
 
-// Whether the task stands within the grid: on a block if it seeks, on a place if it holds.
+// Whether a task may seek there: on a block.
+fn stand_in_range(s: Settings, stand: Stand) -> bool
+    ensures { λ ok. ⌜ ok ≡ standInRange s stand ⌝ }
+{
+    if stand.r as usize + stand.c as usize + 2 > s.k as usize {
+        return false;
+    }
+    let point = stand.point;
+    point_in_range(s, point)
+}
+
+// Whether a task may hold it: within the triangle.
+fn place_in_range(s: Settings, place: Place) -> bool
+    ensures { λ ok. ⌜ ok ≡ placeInRange s place ⌝ }
+{
+    place.r as usize + place.c as usize + 1 <= s.k as usize
+}
+
+// Whether the task may be where it is.
 fn state_in_range(s: Settings, state: State) -> bool
     ensures { λ ok. ⌜ ok ≡ stateInRange s state ⌝ }
 {
     match state {
         State::Idle => true,
-        State::Seeking { r, c, point } => {
-            if r as usize + c as usize + 2 > s.k as usize {
-                return false;
-            }
-            point_in_range(s, point)
-        }
-        State::Holding { r, c } => r as usize + c as usize + 1 <= s.k as usize,
+        State::Seeking(stand) => stand_in_range(s, stand),
+        State::Holding(place) => place_in_range(s, place),
     }
 }
 
@@ -45,8 +61,8 @@ fn turns_in_range(s: Settings, state: State, turns: u32) -> bool
 {
     match state {
         State::Idle => turns == 0,
-        State::Seeking { .. } => turns < s.bound(),
-        State::Holding { .. } => turns <= s.bound(),
+        State::Seeking(_) => turns < s.bound(),
+        State::Holding(_) => turns <= s.bound(),
     }
 }
 
@@ -68,7 +84,7 @@ pub fn is_out(this: Record) -> bool
     let state = this.state;
     match state {
         State::Idle => false,
-        State::Seeking { .. } => true,
-        State::Holding { .. } => true,
+        State::Seeking(_) => true,
+        State::Holding(_) => true,
     }
 }

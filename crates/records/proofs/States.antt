@@ -12,15 +12,15 @@ tag state = tagOf the-type state
 
 pub not-idle : (state : State) → (tag state ≡ 1) ⊎ (tag state ≡ 2) → false ≡ isIdle state
 not-idle Idle other = absurd (⊎-elim (λ e. omega arith) (λ e. omega arith) other)
-not-idle (Seeking r c point) other = refl
-not-idle (Holding r c) other = refl
+not-idle (Seeking stand) other = refl
+not-idle (Holding place) other = refl
 
 pub not-seeking : (state : State) → (tag state ≡ 0) ⊎ (tag state ≡ 2) → false ≡ isSeeking state
 not-seeking Idle other = refl
-not-seeking (Seeking r c point) other = absurd (⊎-elim (λ e. omega arith) (λ e. omega arith) other)
-not-seeking (Holding r c) other = refl
+not-seeking (Seeking stand) other = absurd (⊎-elim (λ e. omega arith) (λ e. omega arith) other)
+not-seeking (Holding place) other = refl
 
 pub not-holding : (state : State) → (tag state ≡ 0) ⊎ (tag state ≡ 1) → false ≡ isHolding state
 not-holding Idle other = refl
-not-holding (Seeking r c point) other = refl
-not-holding (Holding r c) other = absurd (⊎-elim (λ e. omega arith) (λ e. omega arith) other)
+not-holding (Seeking stand) other = refl
+not-holding (Holding place) other = absurd (⊎-elim (λ e. omega arith) (λ e. omega arith) other)

@@ -31,7 +31,7 @@ pub fn is_seeking(this: Record) -> bool
     ensures { λ yes. ⌜ yes ≡ isSeeking (this .state) ⌝ }
 {
     let state = this.state;
-    if let State::Seeking { .. } = state {
+    if let State::Seeking(_) = state {
         true
     } else {
         false
@@ -43,7 +43,7 @@ pub fn is_holding(this: Record) -> bool
     ensures { λ yes. ⌜ yes ≡ isHolding (this .state) ⌝ }
 {
     let state = this.state;
-    if let State::Holding { .. } = state {
+    if let State::Holding(_) = state {
         true
     } else {
         false
@@ -88,8 +88,8 @@ fn standing(s: Settings, this: Record) -> Told
     let state = this.state;
     match state {
         State::Idle => Told::Seeks,
-        State::Seeking { .. } => Told::Seeks,
-        State::Holding { r, c } => Told::Holds(name_at(s, r, c)),
+        State::Seeking(_) => Told::Seeks,
+        State::Holding(place) => Told::Holds(name_at(s, place)),
     }
 }
 
@@ -101,8 +101,8 @@ fn freed(s: Settings, this: Record) -> Told
     let state = this.state;
     match state {
         State::Idle => Told::Seeks,
-        State::Seeking { .. } => Told::Seeks,
-        State::Holding { r, c } => Told::Freed(name_at(s, r, c)),
+        State::Seeking(_) => Told::Seeks,
+        State::Holding(place) => Told::Freed(name_at(s, place)),
     }
 }
 

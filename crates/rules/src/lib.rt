@@ -74,8 +74,8 @@ fn moment(own: Record) -> Refusal
     let state = own.state;
     match state {
         State::Idle => Refusal::TaskIdle,
-        State::Seeking { .. } => Refusal::TaskSeeks,
-        State::Holding { .. } => Refusal::TaskHolds,
+        State::Seeking(_) => Refusal::TaskSeeks,
+        State::Holding(_) => Refusal::TaskHolds,
     }
 }
 

@@ -3,8 +3,10 @@ use Rattle.walks.proofs.Prelude.{refl, URA, Model, Heap, Lfts, Shares, GhostRul
 use Rattle.walks.proofs.Prelude.{factI, _$_, !, by, agg, lit, and-then, no-more, Args, Lasts, AllReal, Real, typed}
 use Rattle.walks.proofs.Prelude.{Body, hears, calls, exits, meets, leaves, copies-all, points-to, refers, joins, sets}
 use Rattle.walks.proofs.Prelude.{lands-in, gives}
+use Rattle.walks.proofs.Prelude.{_≡_, subst, Fn, spelt}
 use Rattle.machine.specs.{Memory.Memory, Calls.{Outcome, call}, Lent.lent}
 use Rattle.machine.specs.declared.{Event.Event, Kind.Kind, TaskId.TaskId}
+use Rattle.calls.proofs.Locals.{handing}
 use Rattle.calls.proofs.Functions.{answer-data, kind-data, event-data, step-fn, release-fn}
 use Rattle.calls.proofs.{Stepping.{kind-is, event-is}, release.{Key.name as key, Statement.statement}}
 use Rattle.calls.proofs.step.Symbol as callee
@@ -12,6 +14,13 @@ use Rattle.calls.proofs.step.Met as callee-met
 use Rattle.calls.proofs.step as step
 use Rattle.calls.proofs.release as this
 use Rattle.calls.proofs.release.Code as code
+
+-- the code, its types as they are declared
+abbrev routine : Fn
+routine = spelt code.function handing
+
+is-the-code : routine ≡ code.function
+is-the-code = refl
 
 module _ {M : Type 1} (𝓤 : URA M) (H : Heap 𝓤) (𝓜 : Model 𝓤 H) (𝓖 : GhostRules 𝓤 H) (𝓡 : Running 𝓤 H 𝓜)
     (κs : Lfts (this.signature .lifetimes)) (qs : Shares (this.signature .lifetimes))
@@ -39,7 +48,7 @@ module _ {M : Type 1} (𝓤 : URA M) (H : Heap 𝓤) (𝓜 : Model 𝓤 H) (𝓖
   abbrev lasts : Memory → Lasts step.ended κs to
   lasts m = (tt, (m .records, (m .xs, (m .marks, (tt, tt)))))
 
-  walk : Body release-fn 𝓤 H 𝓜 𝓖 𝓡 κs qs tt a tt code.env code.function
+  walk : Body release-fn 𝓤 H 𝓜 𝓖 𝓡 κs qs tt a tt code.env routine
   walk l₀ l₁ l₂ l₃ l₄ l₅ l₆ l₇ l₈ l₉ l₁₀ l₁₁ l₁₂ l₁₃ =
       sets ! (agg ! (and-then ! (lit ! tt) (no-more !))) refl
       (typed kind-data W Kind.Release (kind-is Kind.Release) .0) $
@@ -65,4 +74,5 @@ pub release-spec : {M : Type 1} → statement M
 unfolding code.routine
 release-spec 𝓤 H 𝓜 𝓖 𝓡 =
     meets release-fn 𝓤 H 𝓜 𝓖 𝓡 code.env key code.function (code.unfolded 𝓤 H 𝓜 𝓡) (λ κs a t. t)
-    (λ κs qs _ a _ real. walk 𝓤 H 𝓜 𝓖 𝓡 κs qs a real)
+    (λ κs qs _ a _ real. subst (Body release-fn 𝓤 H 𝓜 𝓖 𝓡 κs qs tt a tt code.env) is-the-code
+    (walk 𝓤 H 𝓜 𝓖 𝓡 κs qs a real))

@@ -4,11 +4,13 @@ use Rattle.walks.proofs.Prelude.{GhostRules, Running, givenOf, Given, named, Re
 use Rattle.walks.proofs.Prelude.{_$_, !, ‵, use1, by, move, agg, lit, and-then, no-more, Args, Lasts, AllReal, Real}
 use Rattle.walks.proofs.Prelude.{typed, Body, hears, calls, exits, meets, leaves, copies-all}
 use Rattle.walks.proofs.Prelude.{points-to, refers, sets, lands-in, gives, under, lends-shared, shared-back, settled}
+use Rattle.walks.proofs.Prelude.{_≡_, subst, Fn, spelt}
 use Rattle.machine.specs.{Memory.{Memory, viewOf}, Calls.Outcome}
 use Rattle.machine.specs.declared.{Record.Record, Settings.Settings, TaskId.TaskId, View.View}
 use Rattle.rows.proofs.Functions.{R, task-data, view-data, look-fn}
 use Rattle.registers.specs.Touching.{rows}
 use Rattle.rules.specs.Decision.{preparation}
+use Rattle.calls.proofs.Locals.{setting-up}
 use Rattle.calls.proofs.Functions.{answer-data, decide-setup-fn, setup-fn}
 use Rattle.calls.proofs.{ByDecision.by-preparation, setup.{Key.name as key, Statement.statement}}
 use Rattle.machine.proofs.TaskId as I
@@ -20,6 +22,13 @@ use Rattle.rules.proofs.setup.Symbol as decide
 use Rattle.rules.proofs.setup.Met as decide-met
 use Rattle.calls.proofs.setup as this
 use Rattle.calls.proofs.setup.Code as code
+
+-- the code, its types as they are declared
+abbrev routine : Fn
+routine = spelt code.function setting-up
+
+is-the-code : routine ≡ code.function
+is-the-code = refl
 
 module _ {M : Type 1} (𝓤 : URA M) (H : Heap 𝓤) (𝓜 : Model 𝓤 H) (𝓖 : GhostRules 𝓤 H) (𝓡 : Running 𝓤 H 𝓜)
     (κs : Lfts (this.signature .lifetimes)) (qs : Shares (this.signature .lifetimes))
@@ -61,7 +70,7 @@ module _ {M : Type 1} (𝓤 : URA M) (H : Heap 𝓤) (𝓜 : Model 𝓤 H) (𝓖
   abbrev lasts : Memory → Lasts deciding.ended (κs .1) to
   lasts m = (tt, (tt, (m .xs, (m .marks, tt))))
 
-  walk : Body setup-fn 𝓤 H 𝓜 𝓖 𝓡 κs qs tt a tt code.env code.function
+  walk : Body setup-fn 𝓤 H 𝓜 𝓖 𝓡 κs qs tt a tt code.env routine
   walk l₀ l₁ l₂ l₃ l₄ l₅ l₆ l₇ l₈ l₉ l₁₀ l₁₁ l₁₂ =
       sets ! (points-to ! refl refl refl refl) refl (tt, tt) $
       sets ! (refers ! refl refl refl refl) refl (tt, (tt, (record { fits = room .0 }, tt))) $
@@ -99,4 +108,5 @@ pub setup-spec : {M : Type 1} → statement M
 unfolding code.routine
 setup-spec 𝓤 H 𝓜 𝓖 𝓡 =
     meets setup-fn 𝓤 H 𝓜 𝓖 𝓡 code.env key code.function (code.unfolded 𝓤 H 𝓜 𝓡) (λ κs a t. t)
-    (λ κs qs _ a _ real. walk 𝓤 H 𝓜 𝓖 𝓡 κs qs a real)
+    (λ κs qs _ a _ real. subst (Body setup-fn 𝓤 H 𝓜 𝓖 𝓡 κs qs tt a tt code.env) is-the-code
+    (walk 𝓤 H 𝓜 𝓖 𝓡 κs qs a real))

@@ -1,5 +1,5 @@
 -- `step`: look, decide by `rules`, put back.
-use Rattle.walks.proofs.Prelude.{_≡_, refl, subst, Fn, as-it-is, of-type, spelt}
+use Rattle.walks.proofs.Prelude.{_≡_, refl, subst, Fn, spelt}
 use Rattle.walks.proofs.Prelude.{List, [], _∷_, _<_, _^_, arith, length, URA, fullShare, Model, Heap, Lfts}
 use Rattle.walks.proofs.Prelude.{Shares, GhostRules, Running, givenOf, Given, named, RefT, Room, owed, emp, id⊢, factI}
 use Rattle.walks.proofs.Prelude.{_$_, !, by, move, of-opd, un, and-then, no-more, Args, Lasts, AllReal, Real, typed}
@@ -12,10 +12,7 @@ use Rattle.rows.proofs.Functions.{R, record-data, task-data, view-data, look-fn
 use Rattle.registers.specs.Touching.{rows}
 use Rattle.rules.specs.{Decision.{Decision, decision}, declared.Decided.Decided}
 use Rattle.calls.proofs.Functions.{answer-data, decided-data, event-data, decide-fn, step-fn}
-use Rattle.calls.proofs.{ByDecision.{view-sees, by-decision}, step.{Key.name as key, Statement.statement}}
-use Rattle.machine.proofs.Answer as A₁
-use Rattle.machine.proofs.Settings as S
-use Rattle.machine.proofs.View as V₁
+use Rattle.calls.proofs.{Locals.stepping, ByDecision.{view-sees, by-decision}, step.{Key.name as key, Statement.statement}}
 use Rattle.machine.proofs.Event as E
 use Rattle.machine.proofs.Event.Laws as E′
 use Rattle.machine.proofs.TaskId as I
@@ -34,12 +31,7 @@ use Rattle.calls.proofs.step.Code as code
 
 -- the code, its types as they are declared
 abbrev routine : Fn
-routine =
-    let same = as-it-is code.function in
-    spelt code.function
-    (of-type A₁.the-row ∷ of-type S.the-row ∷ same 2 ∷ same 3 ∷ same 4 ∷ of-type E.the-row ∷ of-type I.the-row
-    ∷ of-type V₁.the-row ∷ of-type D.the-row ∷ same 9 ∷ same 10 ∷ same 11 ∷ same 12 ∷ same 13 ∷ same 14 ∷ same 15
-    ∷ same 16 ∷ same 17 ∷ same 18 ∷ [])
+routine = spelt code.function stepping
 
 is-the-code : routine ≡ code.function
 is-the-code = refl

@@ -11,6 +11,7 @@ use Rattle.machine.specs.{Settings.{width, own}, Places.{blocks, blockNu
 use Rattle.machine.specs.Memory.{Memory, marksNeeded, markIndex, stateOf}
 use Rattle.machine.specs.declared.{Settings.Settings, Direction.{Direction, the-variants.{Right, Down}}}
 use Rattle.machine.specs.declared.Point.{Point, the-variants.{WriteX, Scan, WriteMark, ReadX, Clear}}
+use Rattle.machine.specs.Places.{block, cell}
 use Rattle.machine.specs.declared.State.{State, the-variants.{Idle, Seeking, Holding}}
 use Rattle.machine.specs.promises.Ranges.{WithinLimits}
 use Rattle.machine.proofs.{calls.Cells.earlier-block, bridge.Numbering.block-numbering}
@@ -74,8 +75,8 @@ stageOf W (Clear d) = going (wayOf d)
 
 abbrev pub standOf : ℕ → State → Stand
 standOf W Idle = idle
-standOf W (Seeking r c point) = at r c (stageOf W point)
-standOf W (Holding r c) = at r c holding
+standOf W (Seeking stand) = at (stand .r) (stand .c) (stageOf W (stand .point))
+standOf W (Holding place) = at (place .r) (place .c) holding
 
 abbrev pub onBlock : Settings → ℕ → ℕ → Bool
 onBlock s r c = leb (r + c + 2) (s .k)

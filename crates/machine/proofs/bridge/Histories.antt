@@ -18,10 +18,10 @@ use Rattle.machine.proofs.calls.Fresh.{fill-at, setup-within, setup-mem
 use Rattle.machine.proofs.calls.Fresh.{fresh-fit}
 use Rattle.machine.proofs.calls.{Outcomes.{Called, taken, refused, called}, Fitting.accept-fits}
 use Rattle.machine.proofs.bridge.AsGrid.{standOf, gridOf, all-unmarked}
-use Rattle.machine.proofs.bridge.Spending.{SpentAt, spent-after, turns-stay}
-use Rattle.machine.proofs.bridge.Steps.{caller-record, others-record}
+use Rattle.machine.proofs.{calls.Spending.{Spending, spent-after, turns-stay}, bridge.Spending.spending}
+use Rattle.machine.proofs.calls.After.{caller-record, others-record, others-after}
 pub use Rattle.machine.proofs.bridge.Spending.{rules}
-use Rattle.machine.proofs.bridge.Steps.{in-place, others-after, accepted-step}
+use Rattle.machine.proofs.bridge.Steps.{in-place, accepted-step}
 use Rattle.machine.proofs.refusals.{Passed.{Fit, May}, Passing.passed, Refusing.{ruled, ruled-accepted}}
 use Rattle.grid.proofs.{Cover.{beyond, beyond-out}, Stands.{idle, Grid, Marks, HoldsAt, columnReach}}
 use Rattle.grid.proofs.{Covered.reachOf, Invariant.{AllInPlace, Invariant, invariant-kept}}
@@ -59,7 +59,7 @@ module _ (s : Settings) (fair : WithinLimits s) where
   -- J0 to J3, where at most m are out at once
   pub record Invariants (m : ℕ) (memory : Memory) : Type 0 where
     pub fit : Fit s memory
-    pub spent : (q : ℕ) → q < s .n → SpentAt s fair (stateOf memory q) (turnsIn memory q)
+    pub spent : (q : ℕ) → q < s .n → spending s fair .Spent (stateOf memory q) (turnsIn memory q)
     pub invariant : Invariant (rules s fair) m (gridOf s memory)
 
   pub all-in-place : (memory : Memory) → Fit s memory → AllInPlace (rules s fair) (gridOf s memory)
@@ -68,8 +68,8 @@ module _ (s : Settings) (fair : WithinLimits s) where
   -- who reaches anywhere is out
   reaches-out : (state : State) → 0 < columnReach (standOf (width s) state) → T (isOut state)
   reaches-out Idle l = absurd (not-suc-le-zero l)
-  reaches-out (Seeking r c point) l = tt
-  reaches-out (Holding r c) l = tt
+  reaches-out (Seeking stand) l = tt
+  reaches-out (Holding place) l = tt
 
   cover-out : (memory : Memory) → count (beyond (reachOf (gridOf s memory)) 0 0) (s .n) ≤ outOf s (memory .records)
   cover-out memory =
@@ -78,7 +78,7 @@ module _ (s : Settings) (fair : WithinLimits s) where
 
   -- what is so of one task's record
   abbrev SpentIn : Memory → ℕ → Type 0
-  SpentIn memory q = SpentAt s fair (stateOf memory q) (turnsIn memory q)
+  SpentIn memory q = spending s fair .Spent (stateOf memory q) (turnsIn memory q)
 
   -- a call keeps them, as long as no more than m are out
   pub invariants-kept : (m : ℕ) (event : Event) (memory : Memory) → Invariants m memory
@@ -91,17 +91,17 @@ module _ (s : Settings) (fair : WithinLimits s) where
       go outcome (refused why its-task) few = g
       go outcome (taken o) few = record {
         fit = accept-fits s fair (event .kind) (event .task .0) memory (g .fit) (o .known) (o .moment)
-            (turns-stay s fair memory (g .fit) (event .task .0) (o .known) (event .kind) (o .moment)
+            (turns-stay s fair (spending s fair) memory (g .fit) (event .task .0) (o .known) (event .kind) (o .moment)
             (g .spent (event .task .0) (o .known)));
         spent = λ q l. elim (ℕ-discrete q (event .task .0)) [
           | yes its ↦ subst (λ (p : ℕ). SpentIn (ruled s event memory .memory) p) (sym its)
-              (subst (λ (r : Record). SpentAt s fair (r .state) (r .turns))
-              (sym (caller-record s fair memory (g .fit) (event .task .0) (o .known) (event .kind)
+              (subst (λ (r : Record). spending s fair .Spent (r .state) (r .turns))
+              (sym (caller-record s memory (g .fit) (event .task .0) (o .known) (event .kind)
               (stateOf memory (event .task .0))))
-              (spent-after s fair memory (g .fit) (event .task .0) (o .known) (event .kind) (o .moment)
+              (spent-after s fair (spending s fair) memory (g .fit) (event .task .0) (o .known) (event .kind) (o .moment)
               (g .spent (event .task .0) (o .known))))
-          | no other ↦ subst (λ (r : Record). SpentAt s fair (r .state) (r .turns))
-              (sym (others-record s fair memory (g .fit) (event .task .0) (o .known) (event .kind)
+          | no other ↦ subst (λ (r : Record). spending s fair .Spent (r .state) (r .turns))
+              (sym (others-record s memory (event .task .0) (event .kind)
               (stateOf memory (event .task .0)) q other)) (g .spent q l)
         ];
         invariant = invariant-kept (rules s fair) m (gridOf s memory) (gridOf s (ruled s event memory .memory))
@@ -113,18 +113,18 @@ module _ (s : Settings) (fair : WithinLimits s) where
 
   turn-out : (state : State) → wrongMoment Turn state ≡ false → T (isOut state)
   turn-out Idle e = absurd (true≢false e)
-  turn-out (Seeking r c point) e = tt
-  turn-out (Holding r c) e = tt
+  turn-out (Seeking stand) e = tt
+  turn-out (Holding place) e = tt
 
   release-out : (state : State) → wrongMoment Release state ≡ false → T (isOut state)
   release-out Idle e = absurd (true≢false e)
-  release-out (Seeking r c point) e = tt
-  release-out (Holding r c) e = tt
+  release-out (Seeking stand) e = tt
+  release-out (Holding place) e = tt
 
   module _ (kind : Kind) (p : ℕ) (memory : Memory) (sound : Fit s memory) (below : p < s .n) where
     still-out : (q : ℕ) → (q ≡ p → ⊥) → T (isOut (stateOf (accept s kind p (stateOf memory p) memory .memory) q))
         → T (isOut (stateOf memory q))
-    still-out q d t = rw (others-after s fair memory sound p below kind (stateOf memory p) q d) at t
+    still-out q d t = rw (others-after s memory p kind (stateOf memory p) q d) at t
 
     pub one-more-out : outOf s (accept s kind p (stateOf memory p) memory .memory .records) ≤ suc
         (outOf s (memory .records))
@@ -223,7 +223,8 @@ module _ (s : Settings) (lent : Memory) (ok : SetUp s lent) where
   pub fresh-invariants : (m : ℕ) → Invariants s (setup-within s lent ok) m (setup s lent .memory)
   fresh-invariants m = record {
     fit = fresh-fit s lent ok;
-    spent = λ q l. rw (fresh-idle s lent ok q l) tt;
+    spent = λ q l. subst (λ (state : State). spending s (setup-within s lent ok) .Spent state (turnsIn (setup s lent .memory) q))
+        (sym (fresh-idle s lent ok q l)) (spending s (setup-within s lent ok) .idles (turnsIn (setup s lent .memory) q));
     invariant = idle-invariant s (setup-within s lent ok) m (gridOf s (setup s lent .memory))
         (λ q l. ap (standOf (width s)) (fresh-idle s lent ok q l)) fresh-unmarked;
   }

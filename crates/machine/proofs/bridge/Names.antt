@@ -1,13 +1,25 @@
 -- Demand 3, "Tasks holding names hold different ones, all below k(k+1)/2": no two tasks hold one place, and different
 -- places have different names.
 use mathlib.Core.{Path.{_≡_, refl}, List.List}
-use Prim.Native.Nat.{ℕ, _+_, _<_}
+use Prim.Native.Nat.{ℕ, _+_, _*_, _/_, _<_}
 use native.Mathlib.Omega.{arith}
-use Rattle.machine.specs.{Memory.{Memory, stateOf}, promises.{Demands.{SetUp, memoryAfter}, Ranges.WithinLimits}}
-use Rattle.machine.specs.declared.{Settings.Settings, State.the-variants.Holding, Event.Event}
-use Rattle.machine.proofs.calls.Fresh.{setup-within}
+use lib.Dec.{T}
+use Rattle.machine.specs.{Places.placeName, Records.stateInRange, Memory.{Memory, stateOf}}
+use Rattle.machine.specs.promises.{Demands.{SetUp, memoryAfter}, Ranges.{WithinLimits, PlaceWithin}}
+use Rattle.machine.specs.declared.{Settings.Settings, Place.Place, State.the-variants.Holding, Event.Event}
+use Rattle.machine.proofs.{refusals.Lines.place-line, calls.Fresh.setup-within, bridge.Numbering.name-numbering}
 use Rattle.machine.proofs.bridge.{AsGrid.gridOf, Histories.{rules, all-in-place, InOrder, always-in-order}}
-use Rattle.grid.proofs.{Stands.{InPlace, at, holding}, Invariant.{AllInPlace, one-holder}}
+use Rattle.grid.proofs.Invariant.{AllInPlace, one-holder}
+
+-- ---- what a board gives: the name of a place in range is small, and no two places have one name
+
+pub name-below : (s : Settings) (place : Place) → PlaceWithin s place → placeName s place < s .k * (s .k + 1) / 2
+name-below s place on = name-numbering s .below (place .r) (place .c) (omega arith)
+
+pub names-apart : (s : Settings) (a b : Place) → PlaceWithin s a → PlaceWithin s b → placeName s a ≡ placeName s b → a ≡ b
+names-apart s a b on-a on-b e =
+    let same = name-numbering s .apart (a .r) (a .c) (b .r) (b .c) (omega arith) (omega arith) e in
+    rw (same .0, same .1)
 
 -- ---- where a task holds
 
@@ -21,15 +33,16 @@ module _ (s : Settings) (lent : Memory) (events : List Event) (ok : SetUp s lent
   placed : AllInPlace (rules s fair) (gridOf s (memoryAfter s lent events))
   placed = all-in-place s fair (memoryAfter s lent events) (fine .invariants .fit)
 
-  pub held-place : (p r c : ℕ) → p < s .n → stateOf (memoryAfter s lent events) p ≡ Holding r c → r + c < s .k
-  held-place p r c l e =
-      let there : InPlace (rules s fair) (at r c holding) = rw e at (placed p l) in
-      omega arith
+  pub held-place : (p : ℕ) (place : Place) → p < s .n → stateOf (memoryAfter s lent events) p ≡ Holding place
+      → PlaceWithin s place
+  held-place p place l e =
+      let there : T (stateInRange s (stateOf (memoryAfter s lent events) p)) = fine .invariants .fit .in-range .records p l in
+      place-line s fair place .says (rw e at there)
 
-  pub one-place : (p q r c : ℕ) → p < s .n → q < s .n → stateOf (memoryAfter s lent events) p ≡ Holding r c
-      → stateOf (memoryAfter s lent events) q ≡ Holding r c
+  pub one-place : (p q : ℕ) (place : Place) → p < s .n → q < s .n → stateOf (memoryAfter s lent events) p ≡ Holding place
+      → stateOf (memoryAfter s lent events) q ≡ Holding place
       → (q ≡ p → ⊥) → ⊥
-  one-place p q r c lp lq hp hq =
+  one-place p q place lp lq hp hq =
       one-holder (rules s fair) (gridOf s (memoryAfter s lent events)) placed
-      (fine .invariants .invariant) p q r c lp lq
+      (fine .invariants .invariant) p q (place .r) (place .c) lp lq
       (rw hp (refl, refl)) (rw hq (refl, refl))

@@ -5,6 +5,7 @@ use native.Mathlib.{Nat.mul-comm, Omega.arith}
 use Rattle.grid.specs.Triangle.{half, placeNumber, diagonalNumber}
 use Rattle.machine.proofs.bridge.Numbering.{name-numbering}
 use Rattle.machine.specs.promises.Numbers.{EachNumbered, EachStateTold}
+use Rattle.machine.specs.Places.{block, cell}
 use Rattle.machine.specs.declared.State.the-variants.{Idle, Seeking, Holding}
 
 -- half (d+1) is d(d+1)/2
@@ -26,16 +27,16 @@ places-numbered s = record {
 pub state-told : EachStateTold
 state-told Idle = record {
   idle = (λ t. refl, λ e. tt);
-  seeking = (λ t. absurd t, λ (r, c, point, e). let z : _≡_ {A = ℕ} 0 1 = cc in omega arith);
-  holding = (λ t. absurd t, λ (r, c, e). let z : _≡_ {A = ℕ} 0 1 = cc in omega arith);
+  seeking = (λ t. absurd t, λ (stand, e). let z : _≡_ {A = ℕ} 0 1 = cc in omega arith);
+  holding = (λ t. absurd t, λ (place, e). let z : _≡_ {A = ℕ} 0 1 = cc in omega arith);
 }
-state-told (Seeking r c point) = record {
+state-told (Seeking stand) = record {
   idle = (λ t. absurd t, λ e. let z : _≡_ {A = ℕ} 0 1 = cc in omega arith);
-  seeking = (λ t. (r, c, point, refl), λ h. tt);
-  holding = (λ t. absurd t, λ (i, j, e). let z : _≡_ {A = ℕ} 0 1 = cc in omega arith);
+  seeking = (λ t. (stand, refl), λ h. tt);
+  holding = (λ t. absurd t, λ (place, e). let z : _≡_ {A = ℕ} 0 1 = cc in omega arith);
 }
-state-told (Holding r c) = record {
+state-told (Holding place) = record {
   idle = (λ t. absurd t, λ e. let z : _≡_ {A = ℕ} 0 1 = cc in omega arith);
-  seeking = (λ t. absurd t, λ (i, j, point, e). let z : _≡_ {A = ℕ} 0 1 = cc in omega arith);
-  holding = (λ t. (r, c, refl), λ h. tt);
+  seeking = (λ t. absurd t, λ (stand, e). let z : _≡_ {A = ℕ} 0 1 = cc in omega arith);
+  holding = (λ t. (place, refl), λ h. tt);
 }

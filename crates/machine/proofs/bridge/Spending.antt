@@ -1,33 +1,34 @@
--- The turns that a record carries are tied to the place where its task stands (`Spent`), and so they stay in their
--- range along a history. Every turn could break it: it adds one, and it brings the task on.
-use mathlib.Core.{Path.{_≡_, refl, sym, ap, subst}, Logic.{_⊎_, inl, inr}, Bool.{false, true≢false}}
+-- On a grid the turns that a task has used are tied to the place where it stands (`grid`'s `Spent`). Every turn could
+-- break it: it adds one, and it brings the task on.
+use mathlib.Core.{Path.{_≡_, refl}, Logic.{_⊎_, inl, inr}, Bool.false}
 use Prim.Native.Nat.{ℕ, _+_, _-_, _*_, _≤_, _<_, zero-le}
 use native.Mathlib.{Nat.{le-trans, mul-le-mul-right}, Omega.arith}
-use lib.Dec.{T, le→leb, lt→ltb}
+use lib.Dec.{T}
 use borrow.Author.Tests.{eq-eqb, ne-eqb, not-false}
-use Rattle.machine.specs.{Settings.{width, bound}, Records.{isSeeking, stateInRange, turnsInRange}}
-use Rattle.machine.specs.{Memory.{Memory, stateOf, turnsIn}, Grid.arrive, Turn.turnsAfter, Refusals.wrongMoment}
-use Rattle.machine.specs.Calls.{nextState}
+use Rattle.machine.specs.{Settings.{width, bound}, Records.{isSeeking, isHolding, stateInRange}}
+use Rattle.machine.specs.{Memory.{Memory, stateOf}, Turn.begin, Refusals.wrongMoment, Calls.nextState}
 use Rattle.machine.specs.promises.Ranges.{WithinLimits}
 use Rattle.machine.specs.declared.Settings.{Settings}
-use Rattle.machine.specs.declared.Point.the-variants.{WriteX, Scan, WriteMark, ReadX, Clear}
+use Rattle.machine.specs.declared.Point.{Point, the-variants.{WriteX, Scan, WriteMark, ReadX, Clear}}
 use Rattle.machine.specs.declared.State.{State, the-variants.{Idle, Seeking, Holding}}
-use Rattle.machine.specs.declared.Kind.{Kind, the-variants.{Ask, Turn, Release}}
-use Rattle.machine.proofs.refusals.Passed.{Fit}
-use Rattle.machine.proofs.calls.Fitting.{next-in-range}
-use Rattle.machine.proofs.bridge.{AsGrid.{rulesOf, standOf}, Steps.{arrives, in-place, caller-moves}}
+use Rattle.machine.specs.declared.Kind.the-variants.{Turn}
+use Rattle.machine.proofs.{refusals.Passed.Fit, calls.Spending.Spending}
+use Rattle.machine.proofs.bridge.{AsGrid.{rulesOf, stageOf, standOf}, Steps.{arrives, in-place, caller-moves}}
 use Rattle.grid.proofs.Stands.{Rules, Stand, idle, at}
 use Rattle.grid.proofs.Spent.{cost, Within, OutWithin, SeeksAt, arrives-within, turn-within, seeking-within}
 use Rattle.grid.proofs.Spent.{holding-within}
 
 pub seeks-at : (W : ℕ) (state : State) → T (isSeeking state) → SeeksAt (standOf W state)
 seeks-at W Idle t = t
-seeks-at W (Seeking r c WriteX) t = tt
-seeks-at W (Seeking r c (Scan h)) t = tt
-seeks-at W (Seeking r c WriteMark) t = tt
-seeks-at W (Seeking r c ReadX) t = tt
-seeks-at W (Seeking r c (Clear d)) t = tt
-seeks-at W (Holding r c) t = absurd t
+seeks-at W (Seeking stand) t = by-point (stand .r) (stand .c) (stand .point)
+  where
+    by-point : (r c : ℕ) (point : Point) → SeeksAt (at r c (stageOf W point))
+    by-point r c WriteX = tt
+    by-point r c (Scan h) = tt
+    by-point r c WriteMark = tt
+    by-point r c ReadX = tt
+    by-point r c (Clear d) = tt
+seeks-at W (Holding place) t = absurd t
 
 pub out-within : (R : Rules) (stand : Stand) (t : ℕ) → OutWithin R stand t → Within R stand t
 out-within R idle t h = tt
@@ -41,12 +42,6 @@ bound-enough s l = go (l .modes)
     go (inl e) = rw (eq-eqb (s .mode) 0 e) (mul-le-mul-right (s .k - 1) (omega arith))
     go (inr e) = rw (ne-eqb (s .mode) 0 (λ z. omega arith)) (mul-le-mul-right (s .k - 1) (omega arith))
 
--- a turn counts where the task seeks
-turn-counts : (state : State) (t : ℕ) → wrongMoment Turn state ≡ false → t + 1 ≡ turnsAfter Turn state t
-turn-counts Idle t e = absurd (true≢false e)
-turn-counts (Seeking r c point) t e = refl
-turn-counts (Holding r c) t e = absurd (true≢false e)
-
 module _ (s : Settings) (fair : WithinLimits s) where
   abbrev pub rules : Rules
   rules = rulesOf s fair
@@ -55,50 +50,35 @@ module _ (s : Settings) (fair : WithinLimits s) where
   abbrev pub SpentAt : State → ℕ → Type 0
   SpentAt state t = Within rules (standOf (width s) state) t
 
-  -- and then they are in range
-  out-in-range : (state : State) (t : ℕ) → T (stateInRange s state) → OutWithin rules (standOf (width s) state) t
-      → T (turnsInRange s state t)
-  out-in-range Idle t good h = absurd h
-  out-in-range (Seeking r c point) t good h =
-      let stand = standOf (width s) (Seeking r c point) in
-      lt→ltb t (bound s) (le-trans (seeking-within rules stand t (seeks-at (width s) (Seeking r c point) tt)
-      (in-place s fair (Seeking r c point) good) (out-within rules stand t h)) (bound-enough s fair))
-  out-in-range (Holding r c) t good h =
-      le→leb t (bound s)
-      (le-trans (holding-within rules r c t (in-place s fair (Holding r c) good) h) (bound-enough s fair))
+  pub turned-on : (m : Memory) → Fit s m → (p t : ℕ) → p < s .n → wrongMoment Turn (stateOf m p) ≡ false
+      → SpentAt (stateOf m p) t → SpentAt (nextState s Turn p (stateOf m p) m) (t + 1)
+  turned-on m sound p t below e h =
+      out-within rules (standOf (width s) (nextState s Turn p (stateOf m p) m)) (t + 1)
+      (turn-within rules t (caller-moves s fair m sound p below Turn refl e .1)
+      (seeks-at (width s) (stateOf m p) (rw (not-false (isSeeking (stateOf m p)) e) tt))
+      (in-place s fair (stateOf m p) (sound .in-range .records p below)) h)
 
-  module _ (m : Memory) (sound : Fit s m) (p : ℕ) (below : p < s .n) where
-    asked : OutWithin rules (standOf (width s) (arrive s 0 0)) 0
-    asked = arrives-within rules 0 (arrives s fair 0 0 (fair .k-least)) zero-le
+  pub seeker-below : (state : State) (t : ℕ) → T (stateInRange s state) → T (isSeeking state) → SpentAt state t
+      → t < bound s
+  seeker-below state t good seeks h =
+      le-trans (seeking-within rules (standOf (width s) state) t (seeks-at (width s) state seeks)
+      (in-place s fair state good) h) (bound-enough s fair)
 
-    -- a turn of task p while it seeks
-    pub turned-within : (t : ℕ) → wrongMoment Turn (stateOf m p) ≡ false → SpentAt (stateOf m p) t
-        → OutWithin rules (standOf (width s) (nextState s Turn p (stateOf m p) m)) (t + 1)
-    turned-within t e h =
-        turn-within rules t (caller-moves s fair m sound p below Turn refl e .1)
-        (seeks-at (width s) (stateOf m p) (rw (not-false (isSeeking (stateOf m p)) e) tt))
-        (in-place s fair (stateOf m p) (sound .in-range .records p below)) h
+  pub holder-within : (state : State) (t : ℕ) → T (stateInRange s state) → T (isHolding state) → SpentAt state t
+      → t ≤ bound s
+  holder-within Idle t good holds h = absurd holds
+  holder-within (Seeking stand) t good holds h = absurd holds
+  holder-within (Holding place) t good holds h =
+      le-trans (holding-within rules (place .r) (place .c) t (in-place s fair (Holding place) good) h)
+      (bound-enough s fair)
 
-    -- a call of task p keeps its turns tied to its place
-    pub spent-after : (kind : Kind) → wrongMoment kind (stateOf m p) ≡ false → SpentAt (stateOf m p) (turnsIn m p)
-        → SpentAt (nextState s kind p (stateOf m p) m) (turnsAfter kind (stateOf m p) (turnsIn m p))
-    spent-after Ask e h = out-within rules (standOf (width s) (arrive s 0 0)) 0 asked
-    spent-after Turn e h =
-        subst (SpentAt (nextState s Turn p (stateOf m p) m)) (turn-counts (stateOf m p) (turnsIn m p) e)
-        (out-within rules (standOf (width s) (nextState s Turn p (stateOf m p) m)) (turnsIn m p + 1)
-        (turned-within (turnsIn m p) e h))
-    spent-after Release e h = tt
-
-    -- and in range
-    pub turns-stay : (kind : Kind) → wrongMoment kind (stateOf m p) ≡ false → SpentAt (stateOf m p) (turnsIn m p)
-        → T (turnsInRange s (nextState s kind p (stateOf m p) m) (turnsAfter kind (stateOf m p) (turnsIn m p)))
-    turns-stay Ask e h =
-        out-in-range (arrive s 0 0) 0 (next-in-range s fair Ask p (stateOf m p) m e (sound .in-range .records p below))
-        asked
-    turns-stay Turn e h =
-        subst (λ (t : ℕ). T (turnsInRange s (nextState s Turn p (stateOf m p) m) t))
-        (turn-counts (stateOf m p) (turnsIn m p) e)
-        (out-in-range (nextState s Turn p (stateOf m p) m) (turnsIn m p + 1)
-        (next-in-range s fair Turn p (stateOf m p) m e (sound .in-range .records p below))
-        (turned-within (turnsIn m p) e h))
-    turns-stay Release e h = tt
+  abbrev pub spending : Spending s
+  spending = record {
+    Spent = SpentAt;
+    idles = λ t. tt;
+    asks = out-within rules (standOf (width s) (begin s)) 0
+        (arrives-within rules 0 (arrives s fair 0 0 (fair .k-least)) zero-le);
+    turns-on = turned-on;
+    seeking = seeker-below;
+    holding = holder-within;
+  }

@@ -1,30 +1,31 @@
 -- An accepted call of the machine is a step of its grid: the one place where the two are compared, point by point.
 use mathlib.Core.{Path.{_≡_, refl, sym, ap, subst, _∙_}, Logic.{_⊎_, inl, inr}, Bool.{true≢false, false}, List.List}
 use Prim.Native.Nat.{ℕ, _+_, _≤_, _<_}
-use native.Mathlib.{Nat.le-trans, Decide.{decLe, ℕ-discrete}, Omega.arith}
-use lib.{Dec.{T, leb, leb→le, ltb→lt, eqb→eq}, ListN.{getD, set}, Seq.{getD-set-same, getD-set-other}}
+use native.Mathlib.{Decide.{decLe, ℕ-discrete}, Omega.arith}
+use lib.{Dec.{T, ltb→lt, eqb→eq}, ListN.getD}
 use borrow.Author.Tests.{eqb-false}
-use Rattle.machine.specs.{Settings.{width, own}, Places.blockNumber, Records.{idle, pointInRange, stateInRange}}
-use Rattle.machine.specs.Memory.{Memory, markIndex, recordOf, stateOf, withRecord}
-use Rattle.machine.specs.{Grid.{arrive, move, leave, pointTurned}, Turn.{access, store}}
-use Rattle.machine.specs.{Refusals.{oneTimeRelease, wrongMoment}, Calls.{nextState, recordAfter, accept}}
+use Rattle.machine.specs.{Settings.{width, own}, Places.{blockNumber, block, cell}}
+use Rattle.machine.specs.Records.{pointInRange, stateInRange}
+use Rattle.machine.specs.Memory.{Memory, markIndex, stateOf}
+use Rattle.machine.specs.{Grid.{arrive, move, leave, pointTurned}, Turn.store}
+use Rattle.machine.specs.{Refusals.{oneTimeRelease, wrongMoment}, Calls.{nextState, accept}}
 use Rattle.machine.specs.declared.{Settings.Settings, Direction.{Direction, the-variants.{Right, Down}}}
 use Rattle.machine.specs.declared.Point.{Point, the-variants.{WriteX, Scan, WriteMark, ReadX, Clear}}
-use Rattle.machine.specs.declared.{State.{State, the-variants.{Idle, Seeking, Holding}}, Record.Record}
+use Rattle.machine.specs.declared.State.{State, the-variants.{Idle, Seeking, Holding}}
 use Rattle.machine.specs.declared.Access.{Access}
 use Rattle.machine.specs.declared.Kind.{Kind, the-variants.{Ask, Turn, Release}}
 use Rattle.machine.specs.promises.Ranges.{WithinLimits}
-use Rattle.counting.proofs.Bools.{and-l, and-r}
-use Rattle.machine.proofs.{refusals.{Limits.mode-most, Passed.Fit}, calls.Effects.store-records}
+use Rattle.machine.proofs.refusals.{Limits.mode-most, Ranges.{on-block, at-point, on-cell}, Passed.Fit}
+use Rattle.machine.proofs.calls.After.{caller-after, others-after}
 use Rattle.machine.proofs.bridge.Turning.{scan-marked, scan-done, scan-on, reads-own, reads-other}
 use Rattle.machine.proofs.bridge.AsGrid.{wayOf, own-below, rulesOf, stageOf, standOf, xAt, markAt, gridOf}
 use Rattle.machine.proofs.bridge.AsGrid.{x-on-block, mark-on-block, x-put, mark-put}
 use Rattle.machine.proofs.bridge.Arriving.{arrive-edge, arrive-block, leave-at-once, leave-clearing}
 use Rattle.machine.proofs.bridge.Arriving.{release-clears, release-nothing}
 use Rattle.grid.proofs.Stands.{Rules, mid, at, InPlace}
-use Rattle.grid.proofs.Moves.{Arrives, block, edge, Goes, Leaves, at-once, clearing, Move, Step, Effect, nothing}
+use Rattle.grid.proofs.Moves.{Arrives, block as to-block, edge, Goes, Leaves, at-once, clearing, Move, Step, Effect}
 use Rattle.grid.proofs.Moves.{writes-x, writes-mark, XChange, MarkChange, asks, begins, passes, meets, marks, wins}
-use Rattle.grid.proofs.Moves.{loses, clears, frees, departs}
+use Rattle.grid.proofs.Moves.{nothing, loses, clears, frees, departs}
 
 -- ---- where a task comes to
 
@@ -35,7 +36,7 @@ module _ (s : Settings) (l : WithinLimits s) where
       go : Dec (r + c + 1 ≡ s .k) → Arrives (s .k) r c (standOf (width s) (arrive s r c))
       go (yes e) = subst (λ (to : State). Arrives (s .k) r c (standOf (width s) to)) (arrive-edge s r c e) (edge e)
       go (no d) = subst (λ (to : State). Arrives (s .k) r c (standOf (width s) to)) (arrive-block s r c d)
-          (block {r = r} {c = c} (omega arith))
+          (to-block {r = r} {c = c} (omega arith))
 
   goes : (r c : ℕ) (d : Direction) → r + c + 2 ≤ s .k → Goes (s .k) r c (wayOf d) (standOf (width s) (move s r c d))
   goes r c Right b = arrives r (c + 1) (omega arith)
@@ -55,25 +56,19 @@ module _ (s : Settings) (l : WithinLimits s) where
   -- a record in range stands in its place
   pub in-place : (state : State) → T (stateInRange s state) → InPlace (rulesOf s l) (standOf (width s) state)
   in-place Idle t = tt
-  in-place (Seeking r c point) t =
-      point-in-place point (leb→le (r + c + 2) (s .k) (and-l (leb (r + c + 2) (s .k)) (pointInRange s point) t))
-      (and-r (leb (r + c + 2) (s .k)) (pointInRange s point) t)
+  in-place (Seeking stand) t =
+      point-in-place (stand .r) (stand .c) (stand .point) (on-block s stand t) (at-point s stand t)
     where
-      point-in-place : (point : Point) → r + c + 2 ≤ s .k → T (pointInRange s point)
+      point-in-place : (r c : ℕ) (point : Point) → r + c + 2 ≤ s .k → T (pointInRange s point)
           → InPlace (rulesOf s l) (at r c (stageOf (width s) point))
-      point-in-place WriteX b t = (b, tt)
-      point-in-place (Scan h) b t = let z = ltb→lt h (width s) t in omega arith
-      point-in-place WriteMark b t = omega arith
-      point-in-place ReadX b t = omega arith
-      point-in-place (Clear d) b t = (b, eqb→eq (s .mode) 1 t)
-  in-place (Holding r c) t = (leb→le (r + c + 1) (s .k) t, tt)
+      point-in-place r c WriteX b t = (b, tt)
+      point-in-place r c (Scan h) b t = let z = ltb→lt h (width s) t in omega arith
+      point-in-place r c WriteMark b t = omega arith
+      point-in-place r c ReadX b t = omega arith
+      point-in-place r c (Clear d) b t = (b, eqb→eq (s .mode) 1 t)
+  in-place (Holding place) t = (on-cell s place t, tt)
 
 -- ---- what a call writes, and how its task moves
-
--- an access leaves the records, into which the call puts the next one
-records-after : (s : Settings) (access : Access) (m : Memory) (p : ℕ) (new : Record)
-    → withRecord p new (store s access m) .records ≡ set (m .records) p new
-records-after s access m p new = ap (λ (records : List Record). set records p new) (store-records s m access)
 
 module _ (s : Settings) (l : WithinLimits s) (m : Memory) (h : Fit s m) (p : ℕ) (below : p < s .n) where
   abbrev rules : Rules
@@ -91,7 +86,7 @@ module _ (s : Settings) (l : WithinLimits s) (m : Memory) (h : Fit s m) (p : ℕ
 
   scan-move : (r c i : ℕ) → r + c + 2 ≤ s .k → i < width s
       → Move rules p (gridOf s m) (at r c (mid i)) nothing
-      (standOf (width s) (nextState s Turn p (Seeking r c (Scan i)) m))
+      (standOf (width s) (nextState s Turn p (Seeking (block r c (Scan i))) m))
   scan-move r c i b w = go (ℕ-discrete seen 1) (ℕ-discrete (i + 1) (width s))
     where
       seen : ℕ
@@ -112,7 +107,7 @@ module _ (s : Settings) (l : WithinLimits s) (m : Memory) (h : Fit s m) (p : ℕ
 
   read-move : (r c : ℕ) → r + c + 2 ≤ s .k
       → Move rules p (gridOf s m) (at r c (mid (width s + 1))) nothing
-      (standOf (width s) (nextState s Turn p (Seeking r c ReadX) m))
+      (standOf (width s) (nextState s Turn p (Seeking (block r c ReadX)) m))
   read-move r c b = go (ℕ-discrete seen (p + 1))
     where
       seen : ℕ
@@ -126,10 +121,10 @@ module _ (s : Settings) (l : WithinLimits s) (m : Memory) (h : Fit s m) (p : ℕ
       go (no d) = subst To (reads-other s p r c seen d)
           (loses refl (λ t. d (sym (x-on-block s (m .xs) r c b) ∙ t)) (leaves s l r c Down b))
 
-  turn-moved : (r c : ℕ) (point : Point) → r + c + 2 ≤ s .k → T (pointInRange s point) → Moved Turn (Seeking r c point)
+  turn-moved : (r c : ℕ) (point : Point) → r + c + 2 ≤ s .k → T (pointInRange s point) → Moved Turn (Seeking (block r c point))
   turn-moved r c WriteX b t = record {
     effect = writes-x r c;
-    x-change = x-put s l m (accept s Turn p (Seeking r c WriteX) m .memory) r c (p + 1) b (h .long .xs) refl;
+    x-change = x-put s l m (accept s Turn p (Seeking (block r c WriteX)) m .memory) r c (p + 1) b (h .long .xs) refl;
     mark-change = λ i j place. refl;
     move = begins;
   }
@@ -142,7 +137,7 @@ module _ (s : Settings) (l : WithinLimits s) (m : Memory) (h : Fit s m) (p : ℕ
   turn-moved r c WriteMark b t = record {
     effect = writes-mark r c 1;
     x-change = λ i j. refl;
-    mark-change = mark-put s l m (accept s Turn p (Seeking r c WriteMark) m .memory) r c (own s p) 1 b own-mark
+    mark-change = mark-put s l m (accept s Turn p (Seeking (block r c WriteMark)) m .memory) r c (own s p) 1 b own-mark
         (h .long .marks) refl;
     move = marks refl;
   }
@@ -155,21 +150,21 @@ module _ (s : Settings) (l : WithinLimits s) (m : Memory) (h : Fit s m) (p : ℕ
   turn-moved r c (Clear d) b t = record {
     effect = writes-mark r c 0;
     x-change = λ i j. refl;
-    mark-change = mark-put s l m (accept s Turn p (Seeking r c (Clear d)) m .memory) r c (own s p) 0 b own-mark
+    mark-change = mark-put s l m (accept s Turn p (Seeking (block r c (Clear d))) m .memory) r c (own s p) 0 b own-mark
         (h .long .marks) refl;
     move = clears (eqb→eq (s .mode) 1 t) (goes s l r c d b);
   }
 
-  release-moved : (r c : ℕ) → s .mode ≡ 1 → r + c + 1 ≤ s .k → Moved Release (Holding r c)
+  release-moved : (r c : ℕ) → s .mode ≡ 1 → r + c + 1 ≤ s .k → Moved Release (Holding (cell r c))
   release-moved r c one b = go (decLe (r + c + 2) (s .k))
     where
-      go : Dec (r + c + 2 ≤ s .k) → Moved Release (Holding r c)
+      go : Dec (r + c + 2 ≤ s .k) → Moved Release (Holding (cell r c))
       go (yes on) =
           let clears = sym (release-clears s r c p on) in
           record {
             effect = writes-mark r c 0;
             x-change = λ i j. ap (λ (a : Access). xAt s (store s a m .xs) i j) clears;
-            mark-change = mark-put s l m (accept s Release p (Holding r c) m .memory) r c (own s p) 0 on own-mark
+            mark-change = mark-put s l m (accept s Release p (Holding (cell r c)) m .memory) r c (own s p) 0 on own-mark
                 (h .long .marks)
                 (ap (λ (a : Access). store s a m .marks) clears);
             move = frees one on;
@@ -191,42 +186,19 @@ module _ (s : Settings) (l : WithinLimits s) (m : Memory) (h : Fit s m) (p : ℕ
     mark-change = λ i j place. refl;
     move = asks (arrives s l 0 0 (l .k-least));
   }
-  moved Ask (Seeking r c point) once e t = absurd (true≢false e)
-  moved Ask (Holding r c) once e t = absurd (true≢false e)
+  moved Ask (Seeking stand) once e t = absurd (true≢false e)
+  moved Ask (Holding place) once e t = absurd (true≢false e)
   moved Turn Idle once e t = absurd (true≢false e)
-  moved Turn (Seeking r c point) once e t =
-      turn-moved r c point (leb→le (r + c + 2) (s .k) (and-l (leb (r + c + 2) (s .k)) (pointInRange s point) t))
-      (and-r (leb (r + c + 2) (s .k)) (pointInRange s point) t)
-  moved Turn (Holding r c) once e t = absurd (true≢false e)
+  moved Turn (Seeking stand) once e t =
+      turn-moved (stand .r) (stand .c) (stand .point) (on-block s stand t) (at-point s stand t)
+  moved Turn (Holding place) once e t = absurd (true≢false e)
   moved Release Idle once e t = absurd (true≢false e)
-  moved Release (Seeking r c point) once e t = absurd (true≢false e)
-  moved Release (Holding r c) once e t =
+  moved Release (Seeking stand) once e t = absurd (true≢false e)
+  moved Release (Holding place) once e t =
       let z = eqb-false (s .mode) 0 once in
-      release-moved r c (omega (arith, mode-most s l)) (leb→le (r + c + 1) (s .k) t)
+      release-moved (place .r) (place .c) (omega (arith, mode-most s l)) (on-cell s place t)
 
   -- ---- the step
-
-  pub caller-record : (kind : Kind) (state : State)
-      → recordOf (accept s kind p state m .memory) p ≡ recordAfter s kind p state m
-  caller-record kind state =
-      let new = recordAfter s kind p state m in
-      ap (λ (records : List Record). getD records p idle) (records-after s (access s kind p state) m p new)
-      ∙ getD-set-same (m .records) p new idle (le-trans below (h .long .records))
-
-  pub others-record : (kind : Kind) (state : State) (q : ℕ) → (q ≡ p → ⊥)
-      → recordOf (accept s kind p state m .memory) q ≡ recordOf m q
-  others-record kind state q d =
-      let new = recordAfter s kind p state m in
-      ap (λ (records : List Record). getD records q idle) (records-after s (access s kind p state) m p new)
-      ∙ getD-set-other (m .records) p q new idle d
-
-  pub caller-after : (kind : Kind) (state : State)
-      → stateOf (accept s kind p state m .memory) p ≡ nextState s kind p state m
-  caller-after kind state = ap (λ (a : Record). a .state) (caller-record kind state)
-
-  pub others-after : (kind : Kind) (state : State) (q : ℕ) → (q ≡ p → ⊥)
-      → stateOf (accept s kind p state m .memory) q ≡ stateOf m q
-  others-after kind state q d = ap (λ (a : Record). a .state) (others-record kind state q d)
 
   -- how its task moves
   pub caller-moves : (kind : Kind) → oneTimeRelease s kind ≡ false → wrongMoment kind (stateOf m p) ≡ false
@@ -246,8 +218,8 @@ module _ (s : Settings) (l : WithinLimits s) (m : Memory) (h : Fit s m) (p : ℕ
         effect = it .effect;
         to = standOf (width s) (nextState s kind p (stateOf m p) m);
         stood = refl;
-        stands = ap (standOf (width s)) (caller-after kind (stateOf m p));
-        others = λ q d. ap (standOf (width s)) (others-after kind (stateOf m p) q d);
+        stands = ap (standOf (width s)) (caller-after s m h p below kind (stateOf m p));
+        others = λ q d. ap (standOf (width s)) (others-after s m p kind (stateOf m p) q d);
         x-change = it .x-change;
         mark-change = it .mark-change;
         move = it .move;

@@ -4,16 +4,17 @@
 use mathlib.Core.{Path.{_≡_, refl, subst}, Bool.{Bool, false}, List.{List, [], _∷_}}
 use Prim.Native.Nat.{ℕ, zero, suc, _+_, _≤_, _<_}
 use native.Mathlib.{Decide.{decLe, ℕ-discrete}, Omega.arith}
-use lib.{Dec.{T, leb, leb→le, ltb→lt, le→leb, lt→ltb, lit≤}, ListN.{getD, set, length-set}}
+use lib.{Dec.{T, leb, ltb→lt, le→leb, lt→ltb, lit≤}, ListN.{getD, set, length-set}}
 use borrow.Author.Tests.{eq-eqb}
 use Rattle.machine.specs.{Settings.width, Records.{idle, pointInRange, stateInRange, turnsInRange}}
 use Rattle.machine.specs.Memory.{Memory, markIndex, stateOf, turnsIn, withRecord, withX, withMark, put}
 use Rattle.machine.specs.Memory.{xInRange, markInRange}
 use Rattle.machine.specs.Grid.{pointAccess, arrive, move, leave, pointTurned}
-use Rattle.machine.specs.Turn.{access, value, store, turnsAfter}
+use Rattle.machine.specs.Turn.{standAccess, access, value, store, turnsAfter}
 use Rattle.machine.specs.{Refusals.wrongMoment, Calls.{nextState, recordAfter, accept}}
 use Rattle.machine.specs.declared.{Settings.Settings, Direction.{Direction, the-variants.{Right, Down}}}
 use Rattle.machine.specs.declared.Point.{Point, the-variants.{WriteX, Scan, WriteMark, ReadX, Clear}}
+use Rattle.machine.specs.Places.{block, cell}
 use Rattle.machine.specs.declared.{State.{State, the-variants.{Idle, Seeking, Holding}}, Record.Record}
 use Rattle.machine.specs.declared.{Register.{Register, the-variants.{X, Mark}}, Op.the-variants.{Read, Write}}
 use Rattle.machine.specs.declared.Access.{Access, the-variants.{NoAccess, Touch}}
@@ -23,13 +24,14 @@ use Rattle.machine.proofs.refusals.{Passed.Fit, Limits.{mode-most, widt
 use Rattle.machine.proofs.bridge.Turning.{scan-marked, scan-done, scan-on, reads-own, reads-other}
 use Rattle.machine.proofs.bridge.Arriving.{arrive-edge, arrive-block, leave-at-once, leave-clearing}
 use Rattle.machine.proofs.bridge.Arriving.{release-clears, release-nothing}
-use Rattle.counting.proofs.Bools.{and-in, and-l, and-r}
+use Rattle.counting.proofs.Bools.{and-in}
+use Rattle.machine.proofs.refusals.Ranges.{on-block, at-point}
 
 -- ---- what a call writes is in range
 
 module _ (s : Settings) (l : WithinLimits s) where
   block-in-range : (r c : ℕ) (point : Point) → r + c + 2 ≤ s .k → T (pointInRange s point)
-      → T (stateInRange s (Seeking r c point))
+      → T (stateInRange s (Seeking (block r c point)))
   block-in-range r c point b t = and-in (leb (r + c + 2) (s .k)) (pointInRange s point) (le→leb (r + c + 2) (s .k) b) t
 
   pub arrive-in-range : (r c : ℕ) → r + c + 1 ≤ s .k → T (stateInRange s (arrive s r c))
@@ -81,29 +83,31 @@ module _ (s : Settings) (l : WithinLimits s) where
       → T (stateInRange s (nextState s kind p state m))
   next-in-range Ask p state m e t = arrive-in-range 0 0 (l .k-least)
   next-in-range Turn p Idle m e t = t
-  next-in-range Turn p (Seeking r c point) m e t =
-      turned-in-range p (value s (pointAccess s p r c point) m) r c point
-      (leb→le (r + c + 2) (s .k) (and-l (leb (r + c + 2) (s .k)) (pointInRange s point) t))
-      (and-r (leb (r + c + 2) (s .k)) (pointInRange s point) t)
-  next-in-range Turn p (Holding r c) m e t = t
+  next-in-range Turn p (Seeking stand) m e t =
+      turned-in-range p (value s (standAccess s p stand) m) (stand .r) (stand .c) (stand .point) (on-block s stand t)
+      (at-point s stand t)
+  next-in-range Turn p (Holding place) m e t = t
   next-in-range Release p state m e t = tt
+
+  point-writes : (p r c : ℕ) (point : Point) → p < s .n → Writable s (pointAccess s p r c point)
+  point-writes p r c WriteX h = let low : p + 1 ≤ s .n = omega arith in low
+  point-writes p r c (Scan i) h = tt
+  point-writes p r c WriteMark h = lit≤ tt
+  point-writes p r c ReadX h = tt
+  point-writes p r c (Clear d) h = lit≤ tt
 
   pub access-writes : (kind : Kind) (p : ℕ) (state : State) → p < s .n → Writable s (access s kind p state)
   access-writes Ask p state h = tt
   access-writes Turn p Idle h = tt
-  access-writes Turn p (Seeking r c WriteX) h = let low : p + 1 ≤ s .n = omega arith in low
-  access-writes Turn p (Seeking r c (Scan i)) h = tt
-  access-writes Turn p (Seeking r c WriteMark) h = lit≤ tt
-  access-writes Turn p (Seeking r c ReadX) h = tt
-  access-writes Turn p (Seeking r c (Clear d)) h = lit≤ tt
-  access-writes Turn p (Holding r c) h = tt
+  access-writes Turn p (Seeking stand) h = point-writes p (stand .r) (stand .c) (stand .point) h
+  access-writes Turn p (Holding place) h = tt
   access-writes Release p Idle h = tt
-  access-writes Release p (Seeking r c point) h = tt
-  access-writes Release p (Holding r c) h = go (decLe (r + c + 2) (s .k))
+  access-writes Release p (Seeking stand) h = tt
+  access-writes Release p (Holding place) h = go (decLe (place .r + place .c + 2) (s .k))
     where
-      go : Dec (r + c + 2 ≤ s .k) → Writable s (access s Release p (Holding r c))
-      go (yes b) = subst (Writable s) (release-clears s r c p b) (lit≤ tt)
-      go (no b) = subst (Writable s) (release-nothing s r c p (omega arith)) tt
+      go : Dec (place .r + place .c + 2 ≤ s .k) → Writable s (access s Release p (Holding place))
+      go (yes b) = subst (Writable s) (release-clears s (place .r) (place .c) p b) (lit≤ tt)
+      go (no b) = subst (Writable s) (release-nothing s (place .r) (place .c) p (omega arith)) tt
 
 -- ---- and so is the memory that it leaves
 

@@ -6,16 +6,17 @@ use native.Mathlib.Omega.{arith}
 use lib.Dec.{T, leb}
 use borrow.Author.Tests.{le-leb, lt-leb, leb-true}
 use Rattle.machine.specs.{Settings.{width, own}, Places.blockNumber, Records.{pointInRange, stateInRange}}
-use Rattle.machine.specs.{Memory.{Memory, stateOf}, Grid.pointAccess, Turn.{access, releaseAccess}}
+use Rattle.machine.specs.{Memory.{Memory, stateOf}, Grid.pointAccess, Turn.{standAccess, placeAccess, access}}
 use Rattle.machine.specs.declared.Settings.{Settings}
 use Rattle.machine.specs.declared.Point.{Point, the-variants.{WriteX, Scan, WriteMark, ReadX, Clear}}
+use Rattle.machine.specs.declared.{Stand.Stand, Place.Place}
 use Rattle.machine.specs.declared.State.{State, the-variants.{Idle, Seeking, Holding}}
 use Rattle.machine.specs.declared.{Register.the-variants.Mark, Op.the-variants.Write}
 use Rattle.machine.specs.declared.Access.the-variants.{NoAccess, Touch}
 use Rattle.machine.specs.declared.{Kind.{Kind, the-variants.{Ask, Turn, Release}}, Event.Event}
-use Rattle.machine.specs.promises.Ranges.{WithinLimits, StateWithin}
+use Rattle.machine.specs.promises.Ranges.{WithinLimits, StandWithin}
 use Rattle.machine.specs.promises.OneAccess.{Needed, touches, RegisterNeeded, EachOneAccess, accessOf}
-use Rattle.machine.proofs.refusals.{Ranges.scans-a-mark, Lines.{point-line, state-line}, Passed.Passed}
+use Rattle.machine.proofs.refusals.{Ranges.scans-a-mark, Lines.{point-line, stand-line}, Passed.Passed}
 use Rattle.machine.proofs.{calls.Fitting.access-writes, bridge.AsGrid.{own-below, block-below, mark-below}}
 
 -- ---- which register
@@ -32,9 +33,9 @@ module _ (s : Settings) (l : WithinLimits s) (p : ℕ) (low : p < s .n) where
   point-one r c ReadX b t = (tt, block-below s l r c b)
   point-one r c (Clear direction) b t = (tt, needed-mark r c (own s p) b (own-below s l p low))
 
-  turn-one : (r c : ℕ) (point : Point) → StateWithin s (Seeking r c point)
-      → T (touches (access s Turn p (Seeking r c point))) × RegisterNeeded s (access s Turn p (Seeking r c point))
-  turn-one r c point good = point-one r c point (good .0) (point-line s l point .shows (good .1))
+  turn-one : (stand : Stand) → StandWithin s stand
+      → T (touches (standAccess s p stand)) × RegisterNeeded s (standAccess s p stand)
+  turn-one stand good = point-one (stand .r) (stand .c) (stand .point) (good .0) (point-line s l (stand .point) .shows (good .1))
 
 pub one-access : EachOneAccess
 one-access s l p low = record {
@@ -51,12 +52,12 @@ one-access s l p low = record {
 -- ---- the register of an access, where there is one, is needed
 
 module _ (s : Settings) (l : WithinLimits s) (p : ℕ) (low : p < s .n) where
-  release-needed : (r c : ℕ) → RegisterNeeded s (releaseAccess s p (Holding r c))
-  release-needed r c = go (leb (r + c + 2) (s .k)) refl
+  release-needed : (place : Place) → RegisterNeeded s (placeAccess s p place)
+  release-needed place = go (leb (place .r + place .c + 2) (s .k)) refl
     where
-      go : (b : Bool) → leb (r + c + 2) (s .k) ≡ b
-          → RegisterNeeded s (cond b (Touch (Mark (blockNumber s r c) (own s p)) (Write 0)) NoAccess)
-      go true e = one-access s l p low .release-block r c (leb-true (r + c + 2) (s .k) e) .1
+      go : (b : Bool) → leb (place .r + place .c + 2) (s .k) ≡ b
+          → RegisterNeeded s (cond b (Touch (Mark (blockNumber s (place .r) (place .c)) (own s p)) (Write 0)) NoAccess)
+      go true e = one-access s l p low .release-block (place .r) (place .c) (leb-true (place .r + place .c + 2) (s .k) e) .1
       go false e = tt
 
   -- of a record in range
@@ -64,12 +65,11 @@ module _ (s : Settings) (l : WithinLimits s) (p : ℕ) (low : p < s .n) where
       → RegisterNeeded s (access s kind p state)
   access-needed Ask state good = tt
   access-needed Turn Idle good = tt
-  access-needed Turn (Seeking r c point) good =
-      one-access s l p low .turn r c point (state-line s l (Seeking r c point) .says good) .1
-  access-needed Turn (Holding r c) good = tt
+  access-needed Turn (Seeking stand) good = one-access s l p low .turn stand (stand-line s l stand .says good) .1
+  access-needed Turn (Holding place) good = tt
   access-needed Release Idle good = tt
-  access-needed Release (Seeking r c point) good = tt
-  access-needed Release (Holding r c) good = release-needed r c
+  access-needed Release (Seeking stand) good = tt
+  access-needed Release (Holding place) good = release-needed place
 
 -- of a call that passed its tests
 pub call-needed : (s : Settings) (event : Event) (m : Memory) → Passed s event m → RegisterNeeded s (accessOf s event m)

@@ -25,8 +25,8 @@ pub data Called (s : Settings) (event : Event) (m : Memory) : Outcome → Type 0
 
 moment-above : (state : State) → 4 ≤ numberOf (moment state)
 moment-above Idle = omega arith
-moment-above (Seeking r c point) = omega arith
-moment-above (Holding r c) = omega arith
+moment-above (Seeking stand) = omega arith
+moment-above (Holding place) = omega arith
 
 module _ (s : Settings) (l : WithinLimits s) (event : Event) (m : Memory) (fit : Fit s m) where
   -- the tests of the task

@@ -11,6 +11,7 @@ use Rattle.machine.specs.{Grid.{pointAccess, arrive, move, leave, pointT
 use Rattle.machine.specs.Calls.{Outcome, accept, call, eventOf, ask, turn, release}
 use Rattle.machine.specs.declared.{Settings.Settings, Direction.{Direction, the-variants.{Right, Down}}}
 use Rattle.machine.specs.declared.Point.{Point, the-variants.{WriteX, Scan, WriteMark, ReadX, Clear}}
+use Rattle.machine.specs.Places.{block, cell}
 use Rattle.machine.specs.declared.State.{State, the-variants.{Idle, Seeking, Holding}}
 use Rattle.machine.specs.declared.Kind.{Kind, the-variants.{Ask, Turn, Release}}
 use Rattle.machine.specs.declared.Shown.{Shown, the-variants.Nothing}
@@ -18,13 +19,13 @@ use Rattle.machine.specs.Refusals.{wrongMoment}
 use Rattle.machine.specs.promises.OneAccess.{AcceptedIn}
 use Rattle.machine.specs.promises.Rules.{standsAt, freesAt, SeeksAt, xOf, markOf, longMark, oneMark, readX}
 use Rattle.machine.specs.promises.Rules.{oneMore, readMark, wroteMark, Arrives}
-use Rattle.machine.specs.promises.Rules.{edge, block, Moves, Says, asks, write-x, long-scan-marked}
+use Rattle.machine.specs.promises.Rules.{at-edge, at-block, Moves, Says, asks, write-x, long-scan-marked}
 use Rattle.machine.specs.promises.Rules.{long-scan-next, long-scan-last, once-scan-marked, once-scan-clear}
 use Rattle.machine.specs.promises.Rules.{long-write-mark, once-write-mark, read-x-own, long-read-x-other}
 use Rattle.machine.specs.promises.Rules.{once-read-x-other, clear, release-block, release-edge}
 use Rattle.machine.specs.promises.Rules.{EachFollowsTheRules, EachSpokenOf}
 use Rattle.machine.specs.promises.Ranges.{WithinLimits}
-use Rattle.machine.proofs.refusals.{Limits.mode-most, Ranges.{seeks-on-block, seeks-at-point}}
+use Rattle.machine.proofs.refusals.{Limits.mode-most, Ranges.{on-block, at-point, on-cell}}
 use Rattle.machine.proofs.refusals.{Passing.{passed, by-the-rules}, Passed.Passed}
 use Rattle.machine.proofs.bridge.Arriving.{arrive-edge, arrive-block, leave-at-once, leave-clearing}
 use Rattle.machine.proofs.bridge.AsGrid.{width-one-time, width-long-lived, own-one-time, own-long-lived}
@@ -37,9 +38,9 @@ module _ (s : Settings) (p : ℕ) where
   -- a line of an arrival says where the task comes to
   arrives-so : (r c turns : ℕ) (shown : Shown) (m : Memory) (to : Outcome) → Arrives s p r c turns shown m to
       → standsAt s p (arrive s r c) turns shown m ≡ to
-  arrives-so r c turns shown m to (edge at) =
+  arrives-so r c turns shown m to (at-edge at) =
       ap (λ (state : State). standsAt s p state turns shown m) (sym (arrive-edge s r c at))
-  arrives-so r c turns shown m to (block on) =
+  arrives-so r c turns shown m to (at-block on) =
       ap (λ (state : State). standsAt s p state turns shown m) (sym (arrive-block s r c (λ at. omega arith)))
 
   moves-so : (r c : ℕ) (direction : Direction) (turns : ℕ) (shown : Shown) (m : Memory) (to : Outcome)
@@ -91,15 +92,15 @@ module _ (s : Settings) (long : s .mode ≡ 1) (p : ℕ) (m : Memory) (r c : ℕ
   own-written-long v to turns =
       λ i. standsAt s p to turns (wroteMark s r c (own-long-lived s p long i) v) (withMark (own-mark-long i) v m)
 
-  leave-long : (direction : Direction) → Seeking r c (Clear direction) ≡ leave s r c direction
+  leave-long : (direction : Direction) → Seeking (block r c (Clear direction)) ≡ leave s r c direction
   leave-long direction = leave-clearing s r c direction (λ e. omega arith)
 
   not-marked : (h : ℕ) → longMark s m r c h ≡ 0 → value s (pointAccess s p r c (Scan h)) m ≡ 1 → ⊥
   not-marked h e f = let z = mark-read h 0 e in omega arith
 
   -- a release of a task that holds (r, c)
-  released : AcceptedIn s (release p) m → stateOf m p ≡ Holding r c
-      → call s (release p) m ≡ accept s Release p (Holding r c) m
+  released : AcceptedIn s (release p) m → stateOf m p ≡ Holding (cell r c)
+      → call s (release p) m ≡ accept s Release p (Holding (cell r c)) m
   released t held = by-the-rules s (release p) m t ∙ ap (λ (state : State). accept s Release p state m) held
 
 -- ---- mode 0
@@ -134,16 +135,16 @@ follows-the-rules s p m Ask t to (asks idle arrives) =
     by-the-rules s (ask p) m t ∙ arrives-so s p 0 0 0 Nothing m to arrives
 follows-the-rules s p m Turn t to (write-x {r} {c} at) = turned-at s p m r c WriteX t at
 follows-the-rules s p m Turn t to (long-scan-marked {r} {c} {h} long at low e) =
-    turned-to s p m r c (Scan h) (Seeking r c (Clear Right)) _ t at
+    turned-to s p m r c (Scan h) (Seeking (block r c (Clear Right))) _ t at
     (leave-long s long p m r c Right ∙ turning.scan-marked s p r c h _ (mark-read s long p m r c h 1 e))
     (mark-shown s long p m r c h 1 e)
 follows-the-rules s p m Turn t to (long-scan-next {r} {c} {h} long at low e) =
-    turned-to s p m r c (Scan h) (Seeking r c (Scan (h + 1))) _ t at
+    turned-to s p m r c (Scan h) (Seeking (block r c (Scan (h + 1)))) _ t at
     (turning.scan-on s p r c h _ (not-marked s long p m r c h e)
     (λ last. let w = width-long-lived s long in omega arith))
     (mark-shown s long p m r c h 0 e)
 follows-the-rules s p m Turn t to (long-scan-last {r} {c} {h} long at last e) =
-    turned-to s p m r c (Scan h) (Seeking r c WriteMark) _ t at
+    turned-to s p m r c (Scan h) (Seeking (block r c WriteMark)) _ t at
     (turning.scan-done s p r c h _ (not-marked s long p m r c h e) (last ∙ sym (width-long-lived s long)))
     (mark-shown s long p m r c h 0 e)
 follows-the-rules s p m Turn t to (once-scan-marked {r} {c} once at e moves) =
@@ -152,17 +153,17 @@ follows-the-rules s p m Turn t to (once-scan-marked {r} {c} once at e moves) =
     (mark-shown-once s once p m r c 1 e)
     ∙ moves-so s p r c Right _ _ m to moves
 follows-the-rules s p m Turn t to (once-scan-clear {r} {c} once at e) =
-    turned-to s p m r c (Scan 0) (Seeking r c WriteMark) _ t at
+    turned-to s p m r c (Scan 0) (Seeking (block r c WriteMark)) _ t at
     (turning.scan-done s p r c 0 _ (not-marked-once s once p m r c e) (let w = width-one-time s once in omega arith))
     (mark-shown-once s once p m r c 0 e)
 follows-the-rules s p m Turn t to (long-write-mark {r} {c} long at) =
-    turned-at s p m r c WriteMark t at ∙ own-written-long s long p m r c 1 (Seeking r c ReadX) _
+    turned-at s p m r c WriteMark t at ∙ own-written-long s long p m r c 1 (Seeking (block r c ReadX)) _
 follows-the-rules s p m Turn t to (once-write-mark {r} {c} once at) =
-    turned-at s p m r c WriteMark t at ∙ own-written-once s once p m r c 1 (Seeking r c ReadX) _
+    turned-at s p m r c WriteMark t at ∙ own-written-once s once p m r c 1 (Seeking (block r c ReadX)) _
 follows-the-rules s p m Turn t to (read-x-own {r} {c} at e) =
-    turned-to s p m r c ReadX (Holding r c) _ t at (turning.reads-own s p r c (xOf s m r c) e) (ap (readX s r c) e)
+    turned-to s p m r c ReadX (Holding (cell r c)) _ t at (turning.reads-own s p r c (xOf s m r c) e) (ap (readX s r c) e)
 follows-the-rules s p m Turn t to (long-read-x-other {r} {c} long at other) =
-    turned-to s p m r c ReadX (Seeking r c (Clear Down)) _ t at
+    turned-to s p m r c ReadX (Seeking (block r c (Clear Down))) _ t at
     (leave-long s long p m r c Down ∙ turning.reads-other s p r c _ other) refl
 follows-the-rules s p m Turn t to (once-read-x-other {r} {c} once at other moves) =
     turned-to s p m r c ReadX (move s r c Down) _ t at
@@ -198,8 +199,8 @@ module _ (s : Settings) (p : ℕ) (m : Memory) where
       To state = Arrives s p r c turns shown left (standsAt s p state turns shown left)
 
       go : Dec (r + c + 1 ≡ s .k) → To (arrive s r c)
-      go (yes e) = subst To (arrive-edge s r c e) (edge e)
-      go (no d) = subst To (arrive-block s r c d) (block (omega arith))
+      go (yes e) = subst To (arrive-edge s r c e) (at-edge e)
+      go (no d) = subst To (arrive-block s r c d) (at-block (omega arith))
 
   -- and so does one that moves out of a block
   going : (r c : ℕ) (direction : Direction) (turns : ℕ) (shown : Shown) (left : Memory) → r + c + 2 ≤ s .k
@@ -275,7 +276,7 @@ module _ (s : Settings) (p : ℕ) (m : Memory) where
 
   -- ---- a release
 
-  release-spoken : AcceptedIn s (release p) m → (r c : ℕ) → s .mode ≡ 1 → stateOf m p ≡ Holding r c → r + c + 1 ≤ s .k
+  release-spoken : AcceptedIn s (release p) m → (r c : ℕ) → s .mode ≡ 1 → stateOf m p ≡ Holding (cell r c) → r + c + 1 ≤ s .k
       → Says s p m Release (call s (release p) m)
   release-spoken t r c long held within = go (ℕ-discrete (r + c + 1) (s .k))
     where
@@ -289,21 +290,21 @@ module _ (s : Settings) (p : ℕ) (m : Memory) where
       → (state : State) → stateOf m p ≡ state → T (stateInRange s state) → wrongMoment kind state ≡ false
       → Says s p m kind (call s (eventOf kind p) m)
   by-record Ask t ok Idle is good moment = spoken Ask t _ (asks is (arrival 0 0 0 Nothing m (ok .limits .k-least)))
-  by-record Ask t ok (Seeking r c point) is good moment = absurd (true≢false moment)
-  by-record Ask t ok (Holding r c) is good moment = absurd (true≢false moment)
+  by-record Ask t ok (Seeking stand) is good moment = absurd (true≢false moment)
+  by-record Ask t ok (Holding place) is good moment = absurd (true≢false moment)
   by-record Turn t ok Idle is good moment = absurd (true≢false moment)
-  by-record Turn t ok (Seeking r c point) is good moment =
-      turn-spoken t r c point (record {
+  by-record Turn t ok (Seeking stand) is good moment =
+      turn-spoken t (stand .r) (stand .c) (stand .point) (record {
         stands = is;
-        on-block = seeks-on-block s (Seeking r c point) r c point good refl;
+        on-block = on-block s stand good;
       })
-      (seeks-at-point s (Seeking r c point) r c point good refl)
-  by-record Turn t ok (Holding r c) is good moment = absurd (true≢false moment)
+      (at-point s stand good)
+  by-record Turn t ok (Holding place) is good moment = absurd (true≢false moment)
   by-record Release t ok Idle is good moment = absurd (true≢false moment)
-  by-record Release t ok (Seeking r c point) is good moment = absurd (true≢false moment)
-  by-record Release t ok (Holding r c) is good moment =
-      release-spoken t r c (omega (arith, eqb-false (s .mode) 0 (ok .may .lived), mode-most s (ok .limits))) is
-      (leb→le (r + c + 1) (s .k) good)
+  by-record Release t ok (Seeking stand) is good moment = absurd (true≢false moment)
+  by-record Release t ok (Holding place) is good moment =
+      release-spoken t (place .r) (place .c) (omega (arith, eqb-false (s .mode) 0 (ok .may .lived), mode-most s (ok .limits))) is
+      (on-cell s place good)
 
 pub each-spoken-of : EachSpokenOf
 each-spoken-of s p m kind t =

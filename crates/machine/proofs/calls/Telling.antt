@@ -4,10 +4,11 @@ use Prim.Native.Nat.{ℕ}
 use native.Mathlib.Omega.{arith}
 use lib.Dec.{T}
 use Rattle.machine.specs.{Places.nameNumber, Records.isSeeking, Memory.{Memory, stateOf}}
-use Rattle.machine.specs.Calls.{Outcome, eventOf, standing, freed, toldOf, nextState, call}
+use Rattle.machine.specs.Calls.{Outcome, eventOf, nameAt, standing, freed, toldOf, nextState, call}
 use Rattle.machine.specs.promises.{Demands.Seeks, OneAccess.AcceptedIn, Telling.EachAnswerTells}
+use Rattle.machine.specs.Places.{cell}
 use Rattle.machine.specs.declared.{Settings.Settings, State.{State, the-variants.{Idle, Seeking, Holding}}}
-use Rattle.machine.specs.declared.Record.{Record}
+use Rattle.machine.specs.declared.{Place.Place, Record.Record}
 use Rattle.machine.specs.declared.{Kind.{Kind, the-variants.{Ask, Turn, Release}}, Told.Told, Answer.Answer}
 use Rattle.machine.specs.Answers.{toldSaid, Tells}
 use Rattle.machine.proofs.{refusals.Passing.by-the-rules, calls.Effects.only-the-register-written-changes}
@@ -19,8 +20,8 @@ tells told is values e so = (e, subst (λ (t : Told). Tells (toldSaid t) values)
 
 seeks-told : (s : Settings) (state : State) → T (isSeeking state) → standing s state ≡ Told.Seeks
 seeks-told s Idle t = absurd t
-seeks-told s (Seeking r c point) t = refl
-seeks-told s (Holding r c) t = absurd t
+seeks-told s (Seeking stand) t = refl
+seeks-told s (Holding place) t = absurd t
 
 module _ (s : Settings) (p : ℕ) (m : Memory) where
   abbrev next : Kind → State
@@ -41,11 +42,11 @@ module _ (s : Settings) (p : ℕ) (m : Memory) where
   seeks-answered Turn t seeks = told-after Turn t ∙ seeks-told s (next Turn) seeks
   seeks-answered Release t seeks = absurd seeks
 
-  holds-answered : (kind : Kind) (r c : ℕ) → AcceptedIn s (eventOf kind p) m → next kind ≡ Holding r c
-      → call s (eventOf kind p) m .answer .told ≡ Told.Holds (record { 0 = nameNumber s r c })
-  holds-answered Ask r c t held = told-after Ask t ∙ ap (standing s) held
-  holds-answered Turn r c t held = told-after Turn t ∙ ap (standing s) held
-  holds-answered Release r c t held = let z : _≡_ {A = ℕ} 0 1 = cc in absurd (let none : ⊥ = omega arith in none)
+  holds-answered : (kind : Kind) (place : Place) → AcceptedIn s (eventOf kind p) m → next kind ≡ Holding place
+      → call s (eventOf kind p) m .answer .told ≡ Told.Holds (nameAt s place)
+  holds-answered Ask place t held = told-after Ask t ∙ ap (standing s) held
+  holds-answered Turn place t held = told-after Turn t ∙ ap (standing s) held
+  holds-answered Release place t held = let z : _≡_ {A = ℕ} 0 1 = cc in absurd (let none : ⊥ = omega arith in none)
 
 pub each-answer-tells : EachAnswerTells
 each-answer-tells s p m = record {
@@ -54,7 +55,7 @@ each-answer-tells s p m = record {
       (subst (λ (state : State). T (isSeeking state)) (state-after s p m kind t) seeks)) (refl, refl);
   holds = λ kind n t held.
       tells _ (Told.Holds (record { 0 = n })) (n ∷ [])
-      (holds-answered s p m kind (held .r) (held .c) t (sym (state-after s p m kind t) ∙ held .holds)
+      (holds-answered s p m kind (held .place) t (sym (state-after s p m kind t) ∙ held .holds)
       ∙ ap (λ (name : ℕ). Told.Holds (record { 0 = name })) (sym (held .named)))
       (refl, refl);
   frees = λ n t held.

@@ -8,7 +8,7 @@ use Rattle.machine.specs.Settings.{bound}
 use Rattle.machine.specs.promises.Demands.{HeldNamesDiffer, HeldNamesBelow, LastAnswerTrue, HeldNameAnswered}
 use Rattle.machine.specs.promises.Demands.{SeekerNeverRefused, ServedWithin, EachTurnsTold, BoundExact}
 use Rattle.machine.specs.promises.Demands.{SetupTakes}
-use Rattle.machine.proofs.bridge.{Numbering.name-numbering, Names.{held-place, one-place}}
+use Rattle.machine.proofs.bridge.Names.{name-below, names-apart, held-place, one-place}
 use Rattle.machine.proofs.histories.{Told.told, Seekers.seeker-accepted}
 use Rattle.machine.proofs.histories.{Served.{seeking-used, holding-used, served-alone, turns-told}, Worst.worst}
 use Rattle.machine.proofs.histories.Exact.{worst-needs-bound, setup-takes-largest}
@@ -21,21 +21,20 @@ held-names-differ s lent events ok p q n lp lq hp hq = go (ℕ-discrete q p)
     go : Dec (q ≡ p) → p ≡ q
     go (yes e) = sym e
     go (no d) =
-        let same = name-numbering s .apart (hq .r) (hq .c) (hp .r) (hp .c)
-        (held-place s lent events ok q (hq .r) (hq .c) lq (hq .holds))
-        (held-place s lent events ok p (hp .r) (hp .c) lp (hp .holds)) (sym (hq .named) ∙ hp .named) in
-        absurd (one-place s lent events ok p q (hp .r) (hp .c) lp lq (hp .holds)
-        (rw (same .0, same .1) at (hq .holds)) d)
+        let same = names-apart s (hq .place) (hp .place)
+        (held-place s lent events ok q (hq .place) lq (hq .holds))
+        (held-place s lent events ok p (hp .place) lp (hp .holds)) (sym (hq .named) ∙ hp .named) in
+        absurd (one-place s lent events ok p q (hp .place) lp lq (hp .holds) (rw same at (hq .holds)) d)
 
 pub held-names-below : HeldNamesBelow
 held-names-below s lent events ok p n l h =
-    rw (h .named) (name-numbering s .below (h .r) (h .c) (held-place s lent events ok p (h .r) (h .c) l (h .holds)))
+    rw (h .named) (name-below s (h .place) (held-place s lent events ok p (h .place) l (h .holds)))
 
 pub last-answer-true : LastAnswerTrue
 last-answer-true = told.last-answer-true
 
 pub held-name-answered : HeldNameAnswered
-held-name-answered s lent events ok p n l h = rw (h .named) (told s lent events ok p (h .r) (h .c) l (h .holds))
+held-name-answered s lent events ok p n l h = rw (h .named) (told s lent events ok p (h .place) l (h .holds))
 
 pub seeker-never-refused : SeekerNeverRefused
 seeker-never-refused s lent events ok p l seeks = seeker-accepted s lent events ok p l seeks

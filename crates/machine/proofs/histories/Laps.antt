@@ -7,11 +7,12 @@ use lib.Dec.{T}
 use borrow.Author.Tests.{lt-leb}
 use Rattle.machine.specs.{Records.{isIdle, isSeeking}, Memory.{Memory, stateOf, outOf}, Answers.isAccepted}
 use Rattle.machine.specs.Calls.{Outcome, nextState, accept, call, eventOf}
+use Rattle.machine.specs.Places.{block}
 use Rattle.machine.specs.declared.{Settings.Settings, Point.Point, State.{State, the-variants.{Idle, Seeking}}}
 use Rattle.machine.specs.declared.{Kind.{Kind, the-variants.{Ask, Turn}}, Event.Event}
 use Rattle.machine.specs.promises.Ranges.{WithinLimits}
 use Rattle.machine.proofs.histories.{Worst.each, Leads.{Leads, leads-nowhere, leads-more, leads-append}}
-use Rattle.machine.proofs.bridge.{Steps.{caller-after, others-after}, Histories.{InOrder, in-order-kept}}
+use Rattle.machine.proofs.{calls.After.{caller-after, others-after}, bridge.Histories.{InOrder, in-order-kept}}
 use Rattle.machine.proofs.{calls.Outcomes.{accepted-answer, may-accepted}, refusals.Passed.May}
 
 module _ (s : Settings) (fair : WithinLimits s) where
@@ -55,15 +56,15 @@ module _ {s : Settings} {fair : WithinLimits s} where
         says = subst (λ (z : State). T (isAccepted (accept s kind p z m .answer))) e
             (rw (accepted-answer s (eventOf kind p) m) tt);
         fine = rw (ap (λ (o : Outcome). o .memory) does) at (in-order-kept s fair (eventOf kind p) m f);
-        its = caller-after s fair m (f .invariants .fit) p (o .known) kind state;
-        others = others-after s fair m (f .invariants .fit) p (o .known) kind state;
+        its = caller-after s m (f .invariants .fit) p (o .known) kind state;
+        others = others-after s m p kind state;
       }
 
   pub turn-took : (p r c : ℕ) (point : Point) (m : Memory) → InOrder s fair m → p < s .n
-      → stateOf m p ≡ Seeking r c point
-      → Took s fair Turn p (Seeking r c point) m
+      → stateOf m p ≡ Seeking (block r c point)
+      → Took s fair Turn p (Seeking (block r c point)) m
   turn-took p r c point m f l e =
-      took Turn p (Seeking r c point) m f e
+      took Turn p (Seeking (block r c point)) m f e
       (record { known = l; lived = refl; moment = ap (λ (z : State). not (isSeeking z)) e; room = refl })
 
   pub ask-took : (p : ℕ) (m : Memory) → InOrder s fair m → p < s .n → outOf s (m .records) < s .k → stateOf m p ≡ Idle

@@ -10,19 +10,20 @@ use Rattle.machine.specs.{Settings.width, Records.{isSeeking, isHolding,
 use Rattle.machine.specs.{Calls.{call, setup, turn}, History.{run, turns}}
 use Rattle.machine.specs.promises.{Ranges.WithinLimits, Refusing.tasksOut}
 use Rattle.machine.specs.promises.Demands.{SetUp, memoryAfter, used, Seeks, HoldsSome}
-use Rattle.machine.specs.promises.Light.{NeverMoreOut, lightBound, StandsNear, LightServedWithin}
+use Rattle.machine.specs.promises.Light.{NeverMoreOut, lightBound, Near, StandsNear, LightServedWithin}
 use Rattle.machine.specs.promises.Light.{LightStandsNear, LightNamesBelow}
+use Rattle.machine.specs.Places.{block, cell}
 use Rattle.machine.specs.declared.{Settings.Settings, State.{State, the-variants.{Idle, Seeking, Holding}}}
-use Rattle.machine.specs.declared.{Point.the-variants.{WriteX, Scan, WriteMark, ReadX, Clear}, Event.Event}
+use Rattle.machine.specs.declared.{Point.{Point, the-variants.{WriteX, Scan, WriteMark, ReadX, Clear}}, Event.Event}
 use Rattle.machine.specs.declared.Direction.the-variants.{Right, Down}
 use Rattle.machine.proofs.{calls.Fresh.{setup-within, fresh-none-out}, refusals.Lines.tasks-out}
-use Rattle.machine.proofs.bridge.AsGrid.{rulesOf, standOf, xAt, gridOf}
+use Rattle.machine.proofs.bridge.AsGrid.{rulesOf, stageOf, standOf, xAt, gridOf}
 use Rattle.machine.proofs.bridge.Numbering.{triangle-half, by-diagonals}
 use Rattle.machine.proofs.bridge.Histories.{rules, all-in-place, Invariants, invariants-kept, call-out}
 use Rattle.machine.proofs.bridge.Histories.{fresh-invariants}
-use Rattle.machine.proofs.{bridge.Spending.seeks-at, histories.Served.{always-within, served-alone}}
+use Rattle.machine.proofs.{bridge.Spending.seeks-at, histories.Served.{always-spent, served-alone}}
 use Rattle.counting.proofs.Counting.{count-one}
-use Rattle.grid.proofs.{Stands.{unless-least, ownX, rowReach, columnReach}, Covered.covered-near, Triangle.diagonals}
+use Rattle.grid.proofs.{Stands.{at, unless-least, ownX, rowReach, columnReach}, Covered.covered-near, Triangle.diagonals}
 use Rattle.grid.specs.Triangle.{diagonalNumber}
 use Rattle.grid.proofs.Spent.{cost, Within, seeking-near, holding-near}
 
@@ -67,13 +68,18 @@ module _ (s : Settings) (fair : WithinLimits s) (m : ℕ) where
   stands-near : (x : ℕ → ℕ → ℕ) (p : ℕ) (state : State)
       → rowReach x p (standOf (width s) state) + columnReach (standOf (width s) state) ≤ m + 1 → StandsNear m state
   stands-near x p Idle near = tt
-  stands-near x p (Seeking r c WriteX) near = omega arith
-  stands-near x p (Seeking r c (Scan h)) near = let z = unless-least (ownX x p r c) r in omega arith
-  stands-near x p (Seeking r c WriteMark) near = let z = unless-least (ownX x p r c) r in omega arith
-  stands-near x p (Seeking r c ReadX) near = let z = unless-least (ownX x p r c) r in omega arith
-  stands-near x p (Seeking r c (Clear Right)) near = omega arith
-  stands-near x p (Seeking r c (Clear Down)) near = omega arith
-  stands-near x p (Holding r c) near = omega arith
+  stands-near x p (Seeking stand) near = by-point (stand .r) (stand .c) (stand .point) near
+    where
+      by-point : (r c : ℕ) (point : Point)
+          → rowReach x p (at r c (stageOf (width s) point)) + columnReach (at r c (stageOf (width s) point)) ≤ m + 1
+          → Near m r c
+      by-point r c WriteX near = omega arith
+      by-point r c (Scan h) near = let z = unless-least (ownX x p r c) r in omega arith
+      by-point r c WriteMark near = let z = unless-least (ownX x p r c) r in omega arith
+      by-point r c ReadX near = let z = unless-least (ownX x p r c) r in omega arith
+      by-point r c (Clear Right) near = omega arith
+      by-point r c (Clear Down) near = omega arith
+  stands-near x p (Holding place) near = omega arith
 
   light-near : (memory : Memory) → Light memory → (p : ℕ) → p < s .n → StandsNear m (stateOf memory p)
   light-near memory h p l = stands-near (xAt s (memory .xs)) p (stateOf memory p) (reaches-near memory h p l)
@@ -82,8 +88,8 @@ module _ (s : Settings) (fair : WithinLimits s) (m : ℕ) where
 
 seeker-out : (state : State) → T (isSeeking state) → T (isOut state)
 seeker-out Idle t = absurd t
-seeker-out (Seeking r c point) t = tt
-seeker-out (Holding r c) t = tt
+seeker-out (Seeking stand) t = tt
+seeker-out (Holding place) t = tt
 
 -- m - 1 blocks left, and one that is held
 pub light-enough : (s : Settings) (fair : WithinLimits s) (m : ℕ) → 1 ≤ m
@@ -115,7 +121,7 @@ module _ (s : Settings) (lent : Memory) (m : ℕ) (ok : SetUp s lent) where
         (used s lent events p)
         (seeks-at (width s) (stateOf memory p) seeks)
         (all-in-place s fair memory (light .invariants .fit) p l)
-        (le-trans (reaches-near s fair m memory light p l) (omega arith)) (always-within s lent ok p l events))
+        (le-trans (reaches-near s fair m memory light p l) (omega arith)) (always-spent s lent ok p l events))
         (light-enough s fair m some)
 
     light-holding-used : (events : List Event) → Light s fair m (memoryAfter s lent events)
@@ -124,15 +130,15 @@ module _ (s : Settings) (lent : Memory) (m : ℕ) (ok : SetUp s lent) where
     light-holding-used events light holds =
         let memory = memoryAfter s lent events in
         go (stateOf memory p) holds (light-near s fair m memory light p l) (some-out s fair m memory light p l)
-        (always-within s lent ok p l events)
+        (always-spent s lent ok p l events)
       where
         go : (state : State) → T (isHolding state) → StandsNear m state → (T (isOut state) → 1 ≤ m)
             → Within (rules s fair) (standOf (width s) state) (used s lent events p)
             → used s lent events p ≤ lightBound s m
         go Idle t near some h = absurd t
-        go (Seeking r c point) t near some h = absurd t
-        go (Holding r c) t near some h =
-            le-trans (holding-near (rules s fair) (m - 1) r c (used s lent events p) near h)
+        go (Seeking stand) t near some h = absurd t
+        go (Holding place) t near some h =
+            le-trans (holding-near (rules s fair) (m - 1) (place .r) (place .c) (used s lent events p) near h)
             (light-enough s fair m (some tt))
 
 pub light-served-within : LightServedWithin
@@ -155,11 +161,11 @@ light-stands-near s lent events m ok never p l =
 pub light-names-below : LightNamesBelow
 light-names-below s lent events m ok never two p n l h =
     let stands = light-stands-near s lent events m ok never p l in
-    let near : StandsNear m (Holding (h .r) (h .c)) = rw (h .holds) at stands in
+    let near : StandsNear m (Holding (h .place)) = rw (h .holds) at stands in
     let some = some-out s (setup-within s lent ok) m (memoryAfter s lent events) (always-light s lent m ok events never)
     p l (rw (h .holds) tt) in
-    let named : n ≡ diagonalNumber (h .r) (h .c) =
-    h .named ∙ ap (λ (number : ℕ → ℕ → ℕ). number (h .r) (h .c)) (by-diagonals s (λ one. omega arith)) in
-    let below = diagonals m .below (h .r) (h .c) (omega arith) in
+    let named : n ≡ diagonalNumber (h .place .r) (h .place .c) =
+    h .named ∙ ap (λ (number : ℕ → ℕ → ℕ). number (h .place .r) (h .place .c)) (by-diagonals s (λ one. omega arith)) in
+    let below = diagonals m .below (h .place .r) (h .place .c) (omega arith) in
     let places = triangle-half m in
     rw named (omega arith)

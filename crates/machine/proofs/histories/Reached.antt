@@ -10,13 +10,14 @@ use Rattle.machine.specs.Calls.{Outcome, eventOf, standing, freed, nextS
 use Rattle.machine.specs.promises.Demands.{SetUp, memoryAfter, HoldsName}
 use Rattle.machine.specs.promises.{Refusing.callSays, OneAccess.AcceptedIn}
 use Rattle.machine.specs.promises.Reached.{Reached, Relied, NamesFollow, ReachedPromises}
+use Rattle.machine.specs.Places.{cell}
 use Rattle.machine.specs.declared.{Settings.Settings, State.{State, the-variants.{Idle, Seeking, Holding}}}
 use Rattle.machine.specs.declared.{Kind.{Kind, the-variants.{Ask, Turn, Release}}, Event.Event, Verdict.Verdict}
 use Rattle.machine.specs.declared.Told.{Told, the-variants.{Holds, Freed}}
 use Rattle.machine.proofs.refusals.{Passing.passed, Refusing.{accepted-zero, ruled, ruled-accepted}}
 use Rattle.machine.proofs.calls.{Fresh.setup-within, Outcomes.{Called, taken, refused, called}}
 use Rattle.machine.proofs.calls.Telling.{state-after, told-after, each-answer-tells}
-use Rattle.machine.proofs.bridge.{Steps.others-record, Histories.{run-append, always-in-order}}
+use Rattle.machine.proofs.{calls.After.others-record, bridge.Histories.{run-append, always-in-order}}
 use Rattle.machine.proofs.histories.Demand3.{held-names-differ, held-names-below, seeker-never-refused}
 use Rattle.machine.proofs.histories.Demand3.{served-within, each-turns-told}
 
@@ -88,23 +89,23 @@ module _ (s : Settings) (m : Memory) (p n : ℕ) where
   holds-standing : (state : State) → stateOf m p ≡ state → standing s state ≡ Holds (record { 0 = n })
       → HoldsName s m p n
   holds-standing Idle is e = absurd (let z = ap caseOf e in omega arith)
-  holds-standing (Seeking r c point) is e = absurd (let z = ap caseOf e in omega arith)
-  holds-standing (Holding r c) is e = record { r = r; c = c; holds = is; named = sym (ap nameIn e) }
+  holds-standing (Seeking stand) is e = absurd (let z = ap caseOf e in omega arith)
+  holds-standing (Holding place) is e = record { place = place; holds = is; named = sym (ap nameIn e) }
 
   holds-freed : (state : State) → stateOf m p ≡ state → freed s state ≡ Freed (record { 0 = n }) → HoldsName s m p n
   holds-freed Idle is e = absurd (let z = ap caseOf e in omega arith)
-  holds-freed (Seeking r c point) is e = absurd (let z = ap caseOf e in omega arith)
-  holds-freed (Holding r c) is e = record { r = r; c = c; holds = is; named = sym (ap nameIn e) }
+  holds-freed (Seeking stand) is e = absurd (let z = ap caseOf e in omega arith)
+  holds-freed (Holding place) is e = record { place = place; holds = is; named = sym (ap nameIn e) }
 
 never-freed : (s : Settings) (state : State) (n : ℕ) → standing s state ≡ Freed (record { 0 = n }) → ⊥
 never-freed s Idle n e = let z = ap caseOf e in omega arith
-never-freed s (Seeking r c point) n e = let z = ap caseOf e in omega arith
-never-freed s (Holding r c) n e = let z = ap caseOf e in omega arith
+never-freed s (Seeking stand) n e = let z = ap caseOf e in omega arith
+never-freed s (Holding place) n e = let z = ap caseOf e in omega arith
 
 never-holds : (s : Settings) (state : State) (n : ℕ) → freed s state ≡ Holds (record { 0 = n }) → ⊥
 never-holds s Idle n e = let z = ap caseOf e in omega arith
-never-holds s (Seeking r c point) n e = let z = ap caseOf e in omega arith
-never-holds s (Holding r c) n e = let z = ap caseOf e in omega arith
+never-holds s (Seeking stand) n e = let z = ap caseOf e in omega arith
+never-holds s (Holding place) n e = let z = ap caseOf e in omega arith
 
 module _ (s : Settings) (p n : ℕ) (m : Memory) where
   abbrev told : Kind → Told
@@ -142,7 +143,7 @@ others-kept s event m q other = go (verdictOf s event m) refl
     go (Verdict.Refused why) e = refl
     go Verdict.Accepted e =
         let tests = passed s event m (rw e (ruled-accepted s event m)) in
-        others-record s (tests .limits) m (tests .fit) (event .task .0) (tests .may .known) (event .kind)
+        others-record s m (event .task .0) (event .kind)
         (stateOf m (event .task .0)) q other
 
 follow : (s : Settings) (event : Event) (m : Memory) → NamesFollow s event m

@@ -15,8 +15,8 @@ seeker-may s m p l t = record { known = l; lived = refl; moment = seeking (state
   where
     seeking : (state : State) → T (isSeeking state) → not (isSeeking state) ≡ false
     seeking Idle t = absurd t
-    seeking (Seeking r c point) t = refl
-    seeking (Holding r c) t = absurd t
+    seeking (Seeking stand) t = refl
+    seeking (Holding place) t = absurd t
 
 pub seeker-accepted : (s : Settings) (lent : Memory) (events : List Event) → SetUp s lent → (p : ℕ) → p < s .n
     → Seeks (memoryAfter s lent events) p

@@ -2,11 +2,11 @@
 -- 4(k-1) if one-time, though every other task stops for good".
 use mathlib.Core.{Path.{_≡_, refl, sym, ap, subst, _∙_}, Logic.{_⊎_, inl, inr, ⊎-elim}}
 use mathlib.Core.{Bool.{Bool, true, false, cond, _&&_, true≢false}, List.{List, [], _∷_, _++_, append-assoc}}
-use Prim.Native.Nat.{ℕ, zero, suc, _+_, _-_, _*_, _≤_, _<_}
-use native.Mathlib.{Nat.le-trans, Omega.arith}
+use Prim.Native.Nat.{ℕ, zero, suc, _+_, _≤_, _<_}
+use native.Mathlib.Omega.{arith}
 use lib.Dec.{T, eqb}
 use borrow.Author.Tests.{eqb-true, eqb-false, eq-eqb}
-use Rattle.machine.specs.{Settings.{width, bound}, Records.{isSeeking, isHolding, isOut}}
+use Rattle.machine.specs.{Settings.bound, Records.{isSeeking, isHolding, isOut}}
 use Rattle.machine.specs.{Memory.{Memory, stateOf, turnsIn}, Turn.turnsAfter, Refusals.wrongMoment}
 use Rattle.machine.specs.{Answers.isAccepted, Calls.{Outcome, nextState, accept, call, setup, turn}}
 use Rattle.machine.specs.History.{run, Answered, history, counted, turnsOf, turns}
@@ -17,31 +17,28 @@ use Rattle.machine.specs.declared.State.{State, the-variants.{Idle, Seek
 use Rattle.machine.specs.declared.{Kind.{Kind, the-variants.{Ask, Turn, Release}}, Event.Event}
 use Rattle.machine.proofs.calls.Fresh.{setup-within, fresh-idle}
 use Rattle.machine.proofs.calls.Outcomes.{Called, taken, refused, accepted-answer, called, may-accepted}
-use Rattle.machine.proofs.bridge.{AsGrid.standOf, Steps.{caller-record, others-record, caller-after}}
-use Rattle.machine.proofs.bridge.Spending.{rules, seeks-at, bound-enough, turned-within}
-use Rattle.machine.proofs.bridge.Histories.{all-in-place, InOrder, in-order-kept, fresh-in-order}
+use Rattle.machine.proofs.calls.{After.{caller-record, others-record, caller-after}, Spending.{Spending, spent-as}}
+use Rattle.machine.proofs.{calls.Spending.turned-out, bridge.Spending.spending}
+use Rattle.machine.proofs.bridge.Histories.{InOrder, in-order-kept, fresh-in-order}
 use Rattle.machine.proofs.bridge.Histories.{always-in-order, run-append, history-append}
 use Rattle.machine.proofs.{histories.Seekers.seeker-may, refusals.{Passed.Fit, Refusing.ruled, Lines.turns-line}}
-use Rattle.grid.proofs.Stands.{Rules, InPlace}
-use Rattle.grid.proofs.Spent.{cost, Within, OutWithin, seeking-within, holding-within}
 
 -- ---- records and stands
 
-out-seeks-or-holds : (R : Rules) (W t : ℕ) (state : State) → OutWithin R (standOf W state) t
-    → T (isSeeking state) ⊎ T (isHolding state)
-out-seeks-or-holds R W t Idle h = absurd h
-out-seeks-or-holds R W t (Seeking r c point) h = inl tt
-out-seeks-or-holds R W t (Holding r c) h = inr tt
+out-seeks-or-holds : (state : State) → T (isOut state) → T (isSeeking state) ⊎ T (isHolding state)
+out-seeks-or-holds Idle out = absurd out
+out-seeks-or-holds (Seeking stand) out = inl tt
+out-seeks-or-holds (Holding place) out = inr tt
 
 seeker-out : (state : State) → T (isSeeking state) → T (isOut state)
 seeker-out Idle t = t
-seeker-out (Seeking r c point) t = tt
-seeker-out (Holding r c) t = tt
+seeker-out (Seeking stand) t = tt
+seeker-out (Holding place) t = tt
 
 holder-out : (state : State) → T (isHolding state) → T (isOut state)
 holder-out Idle t = t
-holder-out (Seeking r c point) t = tt
-holder-out (Holding r c) t = tt
+holder-out (Seeking stand) t = tt
+holder-out (Holding place) t = tt
 
 -- ---- the turns in the record are those counted
 
@@ -54,8 +51,8 @@ turns-out : (kind : Kind) (state after : State) (used t : ℕ) → wrongMoment k
     → turnsAfter kind state used ≡ counted kind t
 turns-out Ask state after used t e same freed out = refl
 turns-out Turn Idle after used t e same freed out = absurd (true≢false e)
-turns-out Turn (Seeking r c point) after used t e same freed out = ap (λ (n : ℕ). n + 1) (same tt)
-turns-out Turn (Holding r c) after used t e same freed out = absurd (true≢false e)
+turns-out Turn (Seeking stand) after used t e same freed out = ap (λ (n : ℕ). n + 1) (same tt)
+turns-out Turn (Holding place) after used t e same freed out = absurd (true≢false e)
 turns-out Release state after used t e same freed out =
     absurd (let z : T (isOut Idle) = rw (freed refl) at out in z)
 
@@ -64,7 +61,7 @@ module _ (s : Settings) (fair : WithinLimits s) (p : ℕ) (m : Memory) (sound : 
       → Counts (accept s kind p (stateOf m p) m .memory) p (counted kind t)
   own-call-counts kind l e h =
       subst (λ (r : Record). T (isOut (r .state)) → r .turns ≡ counted kind t)
-      (sym (caller-record s fair m sound p l kind (stateOf m p)))
+      (sym (caller-record s m sound p l kind (stateOf m p)))
       (turns-out kind (stateOf m p) (nextState s kind p (stateOf m p) m) (turnsIn m p) t e h (freed kind))
     where
       freed : (k : Kind) → k ≡ Release → nextState s k p (stateOf m p) m ≡ Idle
@@ -88,7 +85,7 @@ module _ (s : Settings) (fair : WithinLimits s) (p : ℕ) (m : Memory) (sound : 
           let d : p ≡ event .task .0 → ⊥ = λ f. eqb-false (event .task .0) p e (sym f) in
           rw (accepted-answer s event m)
           (subst (λ (r : Record). T (isOut (r .state)) → r .turns ≡ t)
-          (sym (others-record s fair m sound (event .task .0) (o .known) (event .kind)
+          (sym (others-record s m (event .task .0) (event .kind)
           (stateOf m (event .task .0)) p d)) h)
 
 counts-on : (s : Settings) (fair : WithinLimits s) (p : ℕ) (events : List Event) (m : Memory) (t : ℕ)
@@ -97,13 +94,6 @@ counts-on s fair p [] m t f h = h
 counts-on s fair p (event ∷ events) m t f h =
     counts-on s fair p events (call s event m .memory) _ (in-order-kept s fair event m f)
     (call-counts s fair p m (f .invariants .fit) t event h)
-
--- what is so of the one count is so of the other
-within-as : (R : Rules) (W : ℕ) (state : State) (t u : ℕ) → (T (isOut state) → t ≡ u) → Within R (standOf W state) t
-    → Within R (standOf W state) u
-within-as R W Idle t u same h = tt
-within-as R W (Seeking r c point) t u same h = subst (Within R (standOf W (Seeking r c point))) (same tt) h
-within-as R W (Holding r c) t u same h = subst (Within R (standOf W (Holding r c))) (same tt) h
 
 -- ---- every history
 
@@ -135,34 +125,23 @@ module _ (s : Settings) (lent : Memory) (ok : SetUp s lent) (p : ℕ) (l : p < s
         .says (sound events .in-range .turns p l);
   }
 
-  pub always-within : (events : List Event)
-      → Within (rules s fair) (standOf (width s) (stateOf (memoryAfter s lent events) p)) (used s lent events p)
-  always-within events =
-      within-as (rules s fair) (width s) (stateOf (memoryAfter s lent events) p)
+  -- and tied to its state
+  pub always-spent : (events : List Event)
+      → spending s fair .Spent (stateOf (memoryAfter s lent events) p) (used s lent events p)
+  always-spent events =
+      spent-as s fair (spending s fair) (stateOf (memoryAfter s lent events) p)
       (turnsIn (memoryAfter s lent events) p) (used s lent events p) (turns-counted events)
       (always-in-order s lent ok events .invariants .spent p l)
 
   pub seeking-used : (events : List Event) → Seeks (memoryAfter s lent events) p → used s lent events p < bound s
   seeking-used events seeks =
-      le-trans (seeking-within (rules s fair) (standOf (width s) (stateOf (memoryAfter s lent events) p))
-      (used s lent events p)
-      (seeks-at (width s) (stateOf (memoryAfter s lent events) p) seeks)
-      (all-in-place s fair (memoryAfter s lent events) (sound events) p l)
-      (always-within events)) (bound-enough s fair)
+      spending s fair .seeking (stateOf (memoryAfter s lent events) p) (used s lent events p)
+      (sound events .in-range .records p l) seeks (always-spent events)
 
   pub holding-used : (events : List Event) → HoldsSome (memoryAfter s lent events) p → used s lent events p ≤ bound s
   holding-used events holds =
-      le-trans (go (stateOf (memoryAfter s lent events) p) holds
-      (all-in-place s fair (memoryAfter s lent events) (sound events) p l)
-      (always-within events))
-      (bound-enough s fair)
-    where
-      go : (state : State) → T (isHolding state) → InPlace (rules s fair) (standOf (width s) state)
-          → Within (rules s fair) (standOf (width s) state) (used s lent events p)
-          → used s lent events p ≤ cost (rules s fair) * (s .k - 1)
-      go Idle t placed h = absurd t
-      go (Seeking r c point) t placed h = absurd t
-      go (Holding r c) t placed h = holding-within (rules s fair) r c (used s lent events p) placed h
+      spending s fair .holding (stateOf (memoryAfter s lent events) p) (used s lent events p)
+      (sound events .in-range .records p l) holds (always-spent events)
 
   -- ---- its own turns alone
 
@@ -187,12 +166,11 @@ module _ (s : Settings) (lent : Memory) (ok : SetUp s lent) (p : ℕ) (l : p < s
   seeks-or-holds events seeks =
       rw (run-append s events (turn p ∷ []) (setup s lent .memory)
       ∙ ap (λ (outcome : Outcome). outcome .memory) (turn-taken events seeks))
-      (out-seeks-or-holds (rules s fair) (width s) (used s lent events p + 1)
-      (stateOf (ruled s (turn p) (memoryAfter s lent events) .memory) p)
-      (rw (caller-after s fair (memoryAfter s lent events) (sound events) p l Turn
+      (out-seeks-or-holds (stateOf (ruled s (turn p) (memoryAfter s lent events) .memory) p)
+      (rw (caller-after s (memoryAfter s lent events) (sound events) p l Turn
       (stateOf (memoryAfter s lent events) p))
-      (turned-within s fair (memoryAfter s lent events) (sound events) p l (used s lent events p)
-      (seeker-may s (memoryAfter s lent events) p l seeks .moment) (always-within events))))
+      (turned-out s p (stateOf (memoryAfter s lent events) p) (memoryAfter s lent events)
+      (seeker-may s (memoryAfter s lent events) p l seeks .moment))))
 
   -- Where a task that seeks has used fewer than `most` turns, and its own turn leaves the memory so (`Kept`), what is
   -- left of them is enough.

@@ -6,23 +6,21 @@ use Prim.Native.Nat.{ℕ, _+_, _<_}
 use native.Mathlib.Omega.{arith}
 use lib.Dec.{eqb}
 use borrow.Author.Tests.{eqb-true, eqb-false, ne-eqb}
-use Rattle.machine.specs.{Settings.width, Places.nameNumber, Records.{isHolding, isOut}, Memory.{Memory, stateOf}}
-use Rattle.machine.specs.{Grid.{pointAccess, arrive, move, leave, pointTurned}, Turn.value, Refusals.wrongMoment}
+use Rattle.machine.specs.{Places.placeName, Records.{isHolding, isOut}, Memory.{Memory, stateOf}}
+use Rattle.machine.specs.{Turn.{standAccess, value, begin}, Refusals.wrongMoment}
 use Rattle.machine.specs.Answers.{isAccepted, plain}
 use Rattle.machine.specs.Calls.{Outcome, nameAt, standing, toldOf, nextState, call, setup, release}
 use Rattle.machine.specs.History.{run, history}
 use Rattle.machine.specs.promises.Demands.{SetUp, memoryAfter, historyOf, lastAnswer, TrueOf, LastAnswerTrue}
 use Rattle.machine.specs.promises.Demands.{NameTold}
 use Rattle.machine.specs.promises.Ranges.{WithinLimits}
-use Rattle.machine.specs.declared.{Settings.Settings, Name.Name}
-use Rattle.machine.specs.declared.Direction.{Direction, the-variants.{Right, Down}}
-use Rattle.machine.specs.declared.Point.{Point, the-variants.{WriteX, Scan, WriteMark, ReadX, Clear}}
+use Rattle.machine.specs.declared.{Settings.Settings, Name.Name, Place.Place}
 use Rattle.machine.specs.declared.State.{State, the-variants.{Idle, Seeking, Holding}}
 use Rattle.machine.specs.declared.{Kind.{Kind, the-variants.{Ask, Turn, Release}}, Event.Event, Told.Told}
 use Rattle.machine.specs.declared.Answer.{Answer}
 use Rattle.machine.proofs.calls.{Fresh.{setup-within, fresh-idle}, Telling.tells}
 use Rattle.machine.proofs.calls.Outcomes.{Called, taken, refused, accepted-answer, called, may-accepted}
-use Rattle.machine.proofs.bridge.Steps.{caller-after, others-after}
+use Rattle.machine.proofs.{calls.After.{caller-after, others-after}, bridge.Outs.{begin-out, stand-out}}
 use Rattle.machine.proofs.bridge.Histories.{InOrder, in-order-kept, fresh-in-order, always-in-order}
 use Rattle.machine.proofs.refusals.Passed.{Fit, May}
 
@@ -31,55 +29,20 @@ use Rattle.machine.proofs.refusals.Passed.{Fit, May}
 -- a task that stands is told where
 standing-true : (s : Settings) (state : State) → isOut state ≡ true → TrueOf s state (standing s state)
 standing-true s Idle out = absurd (false≢true out)
-standing-true s (Seeking r c point) out = refl
-standing-true s (Holding r c) out = refl
-
-arrive-out : (s : Settings) (r c : ℕ) → isOut (arrive s r c) ≡ true
-arrive-out s r c = go (eqb (r + c + 1) (s .k))
-  where
-    go : (edge : Bool) → isOut (cond edge (Holding r c) (Seeking r c WriteX)) ≡ true
-    go true = refl
-    go false = refl
-
-leave-out : (s : Settings) (r c : ℕ) (direction : Direction) → isOut (leave s r c direction) ≡ true
-leave-out s r c direction = go (eqb (s .mode) 0) direction
-  where
-    go : (once : Bool) (d : Direction) → isOut (cond once (move s r c d) (Seeking r c (Clear d))) ≡ true
-    go true Right = arrive-out s r (c + 1)
-    go true Down = arrive-out s (r + 1) c
-    go false d = refl
-
--- a seeking task is out after its turn
-turned-out : (s : Settings) (p r c : ℕ) (point : Point) (v : ℕ) → isOut (pointTurned s p r c point v) ≡ true
-turned-out s p r c WriteX v = refl
-turned-out s p r c (Scan h) v = go (eqb v 1) (eqb (h + 1) (width s))
-  where
-    go : (met last : Bool) → isOut (cond met (leave s r c Right)
-        (cond last (Seeking r c WriteMark) (Seeking r c (Scan (h + 1))))) ≡ true
-    go true last = leave-out s r c Right
-    go false true = refl
-    go false false = refl
-turned-out s p r c WriteMark v = refl
-turned-out s p r c ReadX v = go (eqb v (p + 1))
-  where
-    go : (its : Bool) → isOut (cond its (Holding r c) (leave s r c Down)) ≡ true
-    go true = refl
-    go false = leave-out s r c Down
-turned-out s p r c (Clear Right) v = arrive-out s r (c + 1)
-turned-out s p r c (Clear Down) v = arrive-out s (r + 1) c
+standing-true s (Seeking stand) out = refl
+standing-true s (Holding place) out = refl
 
 -- what an accepted call answers is true of the record that it leaves
 answer-true : (s : Settings) (kind : Kind) (p : ℕ) (state : State) (m : Memory) → wrongMoment kind state ≡ false
     → TrueOf s (nextState s kind p state m) (toldOf s kind state (nextState s kind p state m))
-answer-true s Ask p state m e = standing-true s (arrive s 0 0) (arrive-out s 0 0)
+answer-true s Ask p state m e = standing-true s (begin s) (begin-out s)
 answer-true s Turn p Idle m e = absurd (true≢false e)
-answer-true s Turn p (Seeking r c point) m e =
-    standing-true s (nextState s Turn p (Seeking r c point) m)
-    (turned-out s p r c point (value s (pointAccess s p r c point) m))
-answer-true s Turn p (Holding r c) m e = absurd (true≢false e)
+answer-true s Turn p (Seeking stand) m e =
+    standing-true s (nextState s Turn p (Seeking stand) m) (stand-out s p stand (value s (standAccess s p stand) m))
+answer-true s Turn p (Holding place) m e = absurd (true≢false e)
 answer-true s Release p Idle m e = absurd (true≢false e)
-answer-true s Release p (Seeking r c point) m e = absurd (true≢false e)
-answer-true s Release p (Holding r c) m e = tt
+answer-true s Release p (Seeking stand) m e = absurd (true≢false e)
+answer-true s Release p (Holding place) m e = tt
 
 -- ---- a history
 
@@ -98,7 +61,7 @@ module _ (s : Settings) (fair : WithinLimits s) (p : ℕ) (m : Memory) (sound : 
       go outcome (refused why its-task) its e = h
       go outcome (taken o) true e =
           let z : event .task .0 ≡ p = eqb-true (event .task .0) p e in
-          let own = caller-after s fair m sound (event .task .0) (o .known) (event .kind)
+          let own = caller-after s m sound (event .task .0) (o .known) (event .kind)
           (stateOf m (event .task .0)) in
           rw (accepted-answer s event m, ← z, own)
           (answer-true s (event .kind) (event .task .0) (stateOf m (event .task .0)) m (o .moment))
@@ -106,7 +69,7 @@ module _ (s : Settings) (fair : WithinLimits s) (p : ℕ) (m : Memory) (sound : 
           let d : p ≡ event .task .0 → ⊥ = λ f. eqb-false (event .task .0) p e (sym f) in
           rw (
             accepted-answer s event m,
-            others-after s fair m sound (event .task .0) (o .known) (event .kind) (stateOf m (event .task .0)) p d,
+            others-after s m (event .task .0) (event .kind) (stateOf m (event .task .0)) p d,
           ) h
 
 last-heard : (s : Settings) (fair : WithinLimits s) (p : ℕ) (events : List Event) (m : Memory) (before : Answer)
@@ -126,27 +89,27 @@ last-answer-true s lent events ok p l =
 
 -- ---- the name that is freed
 
-holder-may : (s : Settings) (m : Memory) (p r c : ℕ) → p < s .n → s .mode ≡ 1 → stateOf m p ≡ Holding r c
-    → May s (release p) m
-holder-may s m p r c l one e = record {
+holder-may : (s : Settings) (m : Memory) (p : ℕ) (place : Place) → p < s .n → s .mode ≡ 1
+    → stateOf m p ≡ Holding place → May s (release p) m
+holder-may s m p place l one e = record {
   known = l;
   lived = ne-eqb (s .mode) 0 (λ z. omega arith);
   moment = ap (λ (state : State). not (isHolding state)) e;
   room = refl;
 }
 
-pub told : (s : Settings) (lent : Memory) (events : List Event) → SetUp s lent → (p r c : ℕ) → p < s .n
-    → stateOf (memoryAfter s lent events) p ≡ Holding r c → NameTold s lent events p (nameNumber s r c)
-told s lent events ok p r c l e =
+pub told : (s : Settings) (lent : Memory) (events : List Event) → SetUp s lent → (p : ℕ) (place : Place) → p < s .n
+    → stateOf (memoryAfter s lent events) p ≡ Holding place → NameTold s lent events p (placeName s place)
+told s lent events ok p place l e =
     let fair = setup-within s lent ok in
     let m = memoryAfter s lent events in
-    let named : Name = nameAt s r c in
+    let named : Name = nameAt s place in
     let heard : lastAnswer p (historyOf s lent events) (plain Told.Done) .told ≡ Told.Holds named =
     rw e at (last-answer-true s lent events ok p l) in
     let freed : s .mode ≡ 1 → call s (release p) m .answer .told ≡ Told.Freed named = λ one.
     rw (
       may-accepted s fair (release p) m (always-in-order s lent ok events .invariants .fit)
-          (holder-may s m p r c l one e),
+          (holder-may s m p place l one e),
       e,
     ) in
     record {

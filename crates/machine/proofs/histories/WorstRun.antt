@@ -11,6 +11,7 @@ use Rattle.machine.specs.{Grid.{arrive, leave}, Calls.{nextState, accept
 use Rattle.machine.specs.promises.{Demands.SetUp, Ranges.WithinLimits}
 use Rattle.machine.specs.declared.{Settings.Settings, Direction.the-variants.Down}
 use Rattle.machine.specs.declared.Point.{Point, the-variants.{WriteX, Scan, WriteMark, ReadX, Clear}}
+use Rattle.machine.specs.Places.{block, cell}
 use Rattle.machine.specs.declared.State.{State, the-variants.{Idle, Seeking, Holding}}
 use Rattle.machine.specs.declared.{Kind.the-variants.{Ask, Turn}, Event.Event}
 use Rattle.machine.proofs.histories.Worst.{worstRow, worstRows, asks, descent, worst, worstLight}
@@ -42,26 +43,26 @@ module _ (s : Settings) (fair : WithinLimits s) where
 
   -- where it stands when it has scanned h marks
   abbrev scanned : ℕ → ℕ → State
-  scanned r h = cond (eqb h (width s)) (Seeking r 0 WriteMark) (Seeking r 0 (Scan h))
+  scanned r h = cond (eqb h (width s)) (Seeking (block r 0 WriteMark)) (Seeking (block r 0 (Scan h)))
 
   scan-lap : (r p : ℕ) → r + 2 ≤ s .k → p < s .n → (left h : ℕ) → h + left ≡ width s → (m : Memory) → InOrder s fair m
       → Scanning r p m
-      → stateOf m p ≡ scanned r h → Lap s fair (Scanning r p) p (Seeking r 0 WriteMark) (turns left p) m
+      → stateOf m p ≡ scanned r h → Lap s fair (Scanning r p) p (Seeking (block r 0 WriteMark)) (turns left p) m
   scan-lap r p b l zero h e m f clean is = lap-over m f clean (is ∙ rw (eq-eqb h (width s) (omega arith)))
   scan-lap r p b l (suc left) h e m f clean is =
       let here = turn-took p r 0 (Scan h) m f l (is ∙ rw (ne-eqb h (width s) (λ z. omega arith))) in
       let unset : getD (m .marks) (markIndex s (blockNumber s r 0) h) 0 ≡ 0 =
       sym (mark-on-block s (m .marks) r 0 h (omega arith) (omega arith)) ∙ clean .0 r h (le-refl r) in
-      let next : nextState s Turn p (Seeking r 0 (Scan h)) m ≡ scanned r (h + 1) = rw unset in
+      let next : nextState s Turn p (Seeking (block r 0 (Scan h))) m ≡ scanned r (h + 1) = rw unset in
       lap-more here
       (scan-lap r p b l left (h + 1) (omega arith) _ (here .fine) clean (here .its ∙ next))
 
   first-lap : (r p : ℕ) → r + 2 ≤ s .k → p < s .n → (m : Memory) → InOrder s fair m → Unmarked r m
-      → stateOf m p ≡ Seeking r 0 WriteX
-      → Lap s fair (Scanning r p) p (Seeking r 0 WriteMark) (turns (suc (width s)) p) m
+      → stateOf m p ≡ Seeking (block r 0 WriteX)
+      → Lap s fair (Scanning r p) p (Seeking (block r 0 WriteMark)) (turns (suc (width s)) p) m
   first-lap r p b l m f clean is =
       let here = turn-took p r 0 WriteX m f l is in
-      let m₁ : Memory = accept s Turn p (Seeking r 0 WriteX) m .memory in
+      let m₁ : Memory = accept s Turn p (Seeking (block r 0 WriteX)) m .memory in
       let some = width-least s fair in
       lap-more here
       (scan-lap r p b l (width s) 0 (omega arith) m₁ (here .fine)
@@ -70,12 +71,12 @@ module _ (s : Settings) (fair : WithinLimits s) where
 
   -- who is alone in a block goes on to write its mark, reads its own number in X and holds
   lone-lap : (r p : ℕ) → r + 2 ≤ s .k → p < s .n → (m : Memory) → InOrder s fair m → Unmarked r m
-      → stateOf m p ≡ Seeking r 0 WriteX
-      → Lap s fair (λ _. Unit {0}) p (Holding r 0) (turns (suc (width s)) p ++ turns 2 p) m
+      → stateOf m p ≡ Seeking (block r 0 WriteX)
+      → Lap s fair (λ _. Unit {0}) p (Holding (cell r 0)) (turns (suc (width s)) p ++ turns 2 p) m
   lone-lap r p b l m f clean is =
       let first = first-lap r p b l m f clean is in
-      let m₁ : Memory = accept s Turn p (Seeking r 0 WriteMark) (first .last) .memory in
-      let m₂ : Memory = accept s Turn p (Seeking r 0 ReadX) m₁ .memory in
+      let m₁ : Memory = accept s Turn p (Seeking (block r 0 WriteMark)) (first .last) .memory in
+      let m₂ : Memory = accept s Turn p (Seeking (block r 0 ReadX)) m₁ .memory in
       let marks = turn-took p r 0 WriteMark (first .last) (first .fine) l (first .its) in
       let reads = turn-took p r 0 ReadX m₁ (marks .fine) l (marks .its) in
       let own : getD (m₁ .xs) (blockNumber s r 0) 0 ≡ p + 1 =
@@ -87,32 +88,32 @@ module _ (s : Settings) (fair : WithinLimits s) where
 
   -- a mark of row r is none of the rows below
   below-unmarked : (r p value : ℕ) (point : Point) (m : Memory) → InOrder s fair m → r + 2 ≤ s .k → p < s .n
-      → accept s Turn p (Seeking r 0 point) m .memory .marks ≡ set (m .marks)
+      → accept s Turn p (Seeking (block r 0 point)) m .memory .marks ≡ set (m .marks)
       (markIndex s (blockNumber s r 0) (own s p)) value
-      → Unmarked (r + 1) m → Unmarked (r + 1) (accept s Turn p (Seeking r 0 point) m .memory)
+      → Unmarked (r + 1) m → Unmarked (r + 1) (accept s Turn p (Seeking (block r 0 point)) m .memory)
   below-unmarked r p value point m f b l e clean i place h =
-      mark-put s fair m (accept s Turn p (Seeking r 0 point) m .memory) r 0 (own s p) value (omega arith)
+      mark-put s fair m (accept s Turn p (Seeking (block r 0 point)) m .memory) r 0 (own s p) value (omega arith)
       (own-below s fair p l)
       (f .invariants .fit .long .marks) e .there i 0 place (λ z _ _. omega arith) ∙ clean i place h
 
   second-lap : (r n p : ℕ) → r + 2 ≤ s .k → p < n → p < s .n → (m : Memory) → InOrder s fair m → Lost r n m
-      → stateOf m p ≡ Seeking r 0 WriteMark
+      → stateOf m p ≡ Seeking (block r 0 WriteMark)
       → Lap s fair (Lost r n) p (arrive s (r + 1) 0) (turns (s .mode + 2) p) m
   second-lap r n p b h l m f lost is = go (fair .modes)
     where
       m₁ : Memory
-      m₁ = accept s Turn p (Seeking r 0 WriteMark) m .memory
+      m₁ = accept s Turn p (Seeking (block r 0 WriteMark)) m .memory
 
       m₂ : Memory
-      m₂ = accept s Turn p (Seeking r 0 ReadX) m₁ .memory
+      m₂ = accept s Turn p (Seeking (block r 0 ReadX)) m₁ .memory
 
       m₃ : Memory
-      m₃ = accept s Turn p (Seeking r 0 (Clear Down)) m₂ .memory
+      m₃ = accept s Turn p (Seeking (block r 0 (Clear Down))) m₂ .memory
 
-      marks : Took s fair Turn p (Seeking r 0 WriteMark) m
+      marks : Took s fair Turn p (Seeking (block r 0 WriteMark)) m
       marks = turn-took p r 0 WriteMark m f l is
 
-      reads : Took s fair Turn p (Seeking r 0 ReadX) m₁
+      reads : Took s fair Turn p (Seeking (block r 0 ReadX)) m₁
       reads = turn-took p r 0 ReadX m₁ (marks .fine) l (marks .its)
 
       lost₂ : Lost r n m₂
@@ -160,25 +161,25 @@ module _ (s : Settings) (fair : WithinLimits s) where
     theirs : (q : ℕ) → q < n → stateOf last q ≡ arrive s (r + 1) 0
 
   row-done : (n r : ℕ) → r + 2 ≤ s .k → suc n < s .n → (m : Memory) → InOrder s fair m → Unmarked r m
-      → ((q : ℕ) → q < suc (suc n) → stateOf m q ≡ Seeking r 0 WriteX) → RowDone (suc n) r m
+      → ((q : ℕ) → q < suc (suc n) → stateOf m q ≡ Seeking (block r 0 WriteX)) → RowDone (suc n) r m
   row-done n r b l m f clean all =
-      let first = laps (λ _. Unmarked r) (Seeking r 0 WriteX) (Seeking r 0 WriteMark) (turns (suc (width s))) (suc n)
+      let first = laps (λ _. Unmarked r) (Seeking (block r 0 WriteX)) (Seeking (block r 0 WriteMark)) (turns (suc (width s))) (suc n)
       (λ p m₁ h f₁ clean₁ is. lap-keeps (λ _ kept. kept .0) (first-lap r p b (omega arith) m₁ f₁ clean₁ is))
       m f clean (λ q h. all q (omega arith)) in
-      let m₁ : Memory = accept s Turn (suc n) (Seeking r 0 WriteX) (first .last) .memory in
+      let m₁ : Memory = accept s Turn (suc n) (Seeking (block r 0 WriteX)) (first .last) .memory in
       let stays = turn-took (suc n) r 0 WriteX (first .last) (first .fine) l
       (first .others (suc n) (le-refl (suc n)) ∙ all (suc n) (le-refl (suc (suc n)))) in
       let lost : Lost r (suc n) m₁ = (
         λ i place h. first .keeps i place (omega arith),
         x-put s fair (first .last) m₁ r 0 (suc n + 1) (omega arith) (first .fine .invariants .fit .long .xs) refl .here,
       ) in
-      let second = laps (λ _. Lost r (suc n)) (Seeking r 0 WriteMark) (arrive s (r + 1) 0) (turns (s .mode + 2)) (suc n)
+      let second = laps (λ _. Lost r (suc n)) (Seeking (block r 0 WriteMark)) (arrive s (r + 1) 0) (turns (s .mode + 2)) (suc n)
       (λ p m₂ h. second-lap r (suc n) p b h (omega arith) m₂) m₁ (stays .fine) lost
       (λ q h. stays .others q (λ d. omega arith) ∙ first .theirs q h) in
       record {
         last = second .last;
         leads = leads-append {middle = first .last} {last = second .last} (first .leads)
-            (leads-more {last = second .last} (accept s Turn (suc n) (Seeking r 0 WriteX) (first .last)) (stays .does)
+            (leads-more {last = second .last} (accept s Turn (suc n) (Seeking (block r 0 WriteX)) (first .last)) (stays .does)
             (stays .says) (second .leads));
         fine = second .fine;
         keeps = second .keeps .0;

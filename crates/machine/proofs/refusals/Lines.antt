@@ -5,16 +5,16 @@ use Prim.Native.Nat.{ℕ, _+_, _≤_, _<_}
 use native.Mathlib.Omega.{arith}
 use lib.{Dec.{eqb, leb, ltb}, ListN.{length, getD}}
 use Rattle.machine.specs.{Settings.{width, bound}, Places.blocks}
-use Rattle.machine.specs.Records.{idle, isIdle, isSeeking, isHolding, isOut, pointInRange, stateInRange}
-use Rattle.machine.specs.Records.{turnsInRange}
-use Rattle.machine.specs.Records.{recordInRange}
+use Rattle.machine.specs.Records.{idle, isIdle, isSeeking, isHolding, isOut, pointInRange, standInRange}
+use Rattle.machine.specs.Records.{placeInRange, stateInRange, turnsInRange, recordInRange}
 use Rattle.machine.specs.Memory.{Memory, marksNeeded, recordOf, stateOf, turnsIn, xInRange, markInRange, outOf}
 use Rattle.machine.specs.Refusals.{Case, when, first, rowShort, oneTimeRelease, wrongMoment, moment, tooManyOut}
-use Rattle.machine.specs.promises.Ranges.{WithinLimits, NeedsMore, PointWithin, StateWithin, TurnsWithin, BadAt}
-use Rattle.machine.specs.promises.Ranges.{seeksOrHolds}
+use Rattle.machine.specs.promises.Ranges.{WithinLimits, NeedsMore, PointWithin, StandWithin, PlaceWithin, StateWithin}
+use Rattle.machine.specs.promises.Ranges.{TurnsWithin, BadAt, seeksOrHolds}
 use Rattle.machine.specs.promises.Refusing.{SomeRowShort, OfIdle, OfSeeking, OfHolding, tasksOut}
 use Rattle.machine.specs.declared.Settings.{Settings}
 use Rattle.machine.specs.declared.Point.{Point, the-variants.{WriteX, Scan, WriteMark, ReadX, Clear}}
+use Rattle.machine.specs.declared.{Stand.Stand, Place.Place}
 use Rattle.machine.specs.declared.{State.{State, the-variants.{Idle, Seeking, Holding}}, Record.Record}
 use Rattle.machine.specs.declared.Kind.{Kind, the-variants.{Ask, Turn, Release}}
 use Rattle.machine.specs.declared.Row.{Row, the-variants.{Records, Xs, Marks}}
@@ -75,15 +75,21 @@ module _ (s : Settings) (l : WithinLimits s) where
   point-line ReadX = always tt
   point-line (Clear direction) = same (s .mode) 1
 
+  pub stand-line : (stand : Stand) → Tested (standInRange s stand) (StandWithin s stand)
+  stand-line stand = both (most (stand .r + stand .c + 2) (s .k)) (point-line (stand .point))
+
+  pub place-line : (place : Place) → Tested (placeInRange s place) (PlaceWithin s place)
+  place-line place = most (place .r + place .c + 1) (s .k)
+
   pub state-line : (state : State) → Tested (stateInRange s state) (StateWithin s state)
   state-line Idle = always tt
-  state-line (Seeking r c point) = both (most (r + c + 2) (s .k)) (point-line point)
-  state-line (Holding r c) = most (r + c + 1) (s .k)
+  state-line (Seeking stand) = stand-line stand
+  state-line (Holding place) = place-line place
 
   pub turns-line : (state : State) (turns : ℕ) → Tested (turnsInRange s state turns) (TurnsWithin s state turns)
   turns-line Idle turns = same turns 0
-  turns-line (Seeking r c point) turns = below turns (bound s)
-  turns-line (Holding r c) turns = most turns (bound s)
+  turns-line (Seeking stand) turns = below turns (bound s)
+  turns-line (Holding place) turns = most turns (bound s)
 
   -- whether the value at an index is in range, in the definitions
   abbrev pub inRangeAt : Memory → Row → ℕ → Bool
@@ -118,46 +124,44 @@ not-ask Ask = never (⊎-elim (λ e. let z : _≡_ {A = ℕ} 0 1 = cc in omega a
 not-ask Turn = always (inl refl)
 not-ask Release = always (inr refl)
 
-not-turn : (kind : Kind) (r c : ℕ) (point : Point)
-    → Tested (wrongMoment kind (Seeking r c point)) ((kind ≡ Ask) ⊎ (kind ≡ Release))
-not-turn Ask r c point = always (inl refl)
-not-turn Turn r c point = never (⊎-elim (λ e. let z : _≡_ {A = ℕ} 0 1 = cc in omega arith)
+not-turn : (kind : Kind) (stand : Stand) → Tested (wrongMoment kind (Seeking stand)) ((kind ≡ Ask) ⊎ (kind ≡ Release))
+not-turn Ask stand = always (inl refl)
+not-turn Turn stand = never (⊎-elim (λ e. let z : _≡_ {A = ℕ} 0 1 = cc in omega arith)
     (λ e. let z : _≡_ {A = ℕ} 0 1 = cc in omega arith))
-not-turn Release r c point = always (inr refl)
+not-turn Release stand = always (inr refl)
 
-not-release : (kind : Kind) (r c : ℕ) → Tested (wrongMoment kind (Holding r c)) ((kind ≡ Ask) ⊎ (kind ≡ Turn))
-not-release Ask r c = always (inl refl)
-not-release Turn r c = always (inr refl)
-not-release Release r c = never (⊎-elim (λ e. let z : _≡_ {A = ℕ} 0 1 = cc in omega arith)
+not-release : (kind : Kind) (place : Place) → Tested (wrongMoment kind (Holding place)) ((kind ≡ Ask) ⊎ (kind ≡ Turn))
+not-release Ask place = always (inl refl)
+not-release Turn place = always (inr refl)
+not-release Release place = never (⊎-elim (λ e. let z : _≡_ {A = ℕ} 0 1 = cc in omega arith)
     (λ e. let z : _≡_ {A = ℕ} 0 1 = cc in omega arith))
 
 pub idle-line : (kind : Kind) (state : State) → Tested (isIdle state && wrongMoment kind state) (OfIdle kind state)
 idle-line kind Idle = meaning (not-ask kind) (λ calls. (calls, refl), λ h. h .0)
-idle-line kind (Seeking r c point) = never (λ (calls, e). let z : _≡_ {A = ℕ} 0 1 = cc in omega arith)
-idle-line kind (Holding r c) = never (λ (calls, e). let z : _≡_ {A = ℕ} 0 1 = cc in omega arith)
+idle-line kind (Seeking stand) = never (λ (calls, e). let z : _≡_ {A = ℕ} 0 1 = cc in omega arith)
+idle-line kind (Holding place) = never (λ (calls, e). let z : _≡_ {A = ℕ} 0 1 = cc in omega arith)
 
 pub seeking-line : (kind : Kind) (state : State)
     → Tested (isSeeking state && wrongMoment kind state) (OfSeeking kind state)
-seeking-line kind Idle = never (λ (calls, (r, c, point, e)). let z : _≡_ {A = ℕ} 0 1 = cc in omega arith)
-seeking-line kind (Seeking r c point) =
-    meaning (not-turn kind r c point) (λ calls. (calls, (r, c, point, refl)), λ h. h .0)
-seeking-line kind (Holding r c) =
-    never (λ (calls, (r, c, point, e)). let z : _≡_ {A = ℕ} 0 1 = cc in omega arith)
+seeking-line kind Idle = never (λ (calls, (stand, e)). let z : _≡_ {A = ℕ} 0 1 = cc in omega arith)
+seeking-line kind (Seeking stand) =
+    meaning (not-turn kind stand) (λ calls. (calls, (stand, refl)), λ h. h .0)
+seeking-line kind (Holding place) = never (λ (calls, (stand, e)). let z : _≡_ {A = ℕ} 0 1 = cc in omega arith)
 
 pub holding-line : (kind : Kind) (state : State)
     → Tested (isHolding state && wrongMoment kind state) (OfHolding kind state)
-holding-line kind Idle = never (λ (calls, (r, c, e)). let z : _≡_ {A = ℕ} 0 1 = cc in omega arith)
-holding-line kind (Seeking r c point) = never (λ (calls, (r, c, e)). let z : _≡_ {A = ℕ} 0 1 = cc in omega arith)
-holding-line kind (Holding r c) = meaning (not-release kind r c) (λ calls. (calls, (r, c, refl)), λ h. h .0)
+holding-line kind Idle = never (λ (calls, (place, e)). let z : _≡_ {A = ℕ} 0 1 = cc in omega arith)
+holding-line kind (Seeking stand) = never (λ (calls, (place, e)). let z : _≡_ {A = ℕ} 0 1 = cc in omega arith)
+holding-line kind (Holding place) = meaning (not-release kind place) (λ calls. (calls, (place, refl)), λ h. h .0)
 
 -- where none of the three holds the moment is right
 pub right-moment : (kind : Kind) (state : State) → (OfIdle kind state → ⊥) → (OfSeeking kind state → ⊥)
     → (OfHolding kind state → ⊥) → wrongMoment kind state ≡ false
 right-moment kind Idle idle seeking holding = misses (not-ask kind) (λ calls. idle (calls, refl))
-right-moment kind (Seeking r c point) idle seeking holding =
-    misses (not-turn kind r c point) (λ calls. seeking (calls, (r, c, point, refl)))
-right-moment kind (Holding r c) idle seeking holding =
-    misses (not-release kind r c) (λ calls. holding (calls, (r, c, refl)))
+right-moment kind (Seeking stand) idle seeking holding =
+    misses (not-turn kind stand) (λ calls. seeking (calls, (stand, refl)))
+right-moment kind (Holding place) idle seeking holding =
+    misses (not-release kind place) (λ calls. holding (calls, (place, refl)))
 
 -- the one case of the definitions, as three
 abbrev pub momentCases : Kind → State → List Case → List Case
@@ -170,14 +174,14 @@ momentCases kind state rest =
 pub moment-as-three : (kind : Kind) (state : State) (rest : List Case)
     → first (when (wrongMoment kind state) (moment state) ∷ rest) ≡ first (momentCases kind state rest)
 moment-as-three kind Idle rest = refl
-moment-as-three kind (Seeking r c point) rest = refl
-moment-as-three kind (Holding r c) rest = refl
+moment-as-three kind (Seeking stand) rest = refl
+moment-as-three kind (Holding place) rest = refl
 
 -- 18: a record of the N is other than idle
 pub idle-tested : (state : State) → Tested (isIdle state) (state ≡ Idle)
 idle-tested Idle = always refl
-idle-tested (Seeking r c point) = never (λ e. let z : _≡_ {A = ℕ} 0 1 = cc in omega arith)
-idle-tested (Holding r c) = never (λ e. let z : _≡_ {A = ℕ} 0 1 = cc in omega arith)
+idle-tested (Seeking stand) = never (λ e. let z : _≡_ {A = ℕ} 0 1 = cc in omega arith)
+idle-tested (Holding place) = never (λ e. let z : _≡_ {A = ℕ} 0 1 = cc in omega arith)
 
 pub idle-record-tested : (state : State) (turns : ℕ)
     → Tested (isIdle state && eqb turns 0) (record { state = state; turns = turns } ≡ idle)
@@ -194,14 +198,14 @@ out-tested s m = some-counted (λ p. isOut (stateOf m p)) (λ p. fails (idle-tes
 pub busy-how : (s : Settings) (state : State) (turns : ℕ) → (record { state = state; turns = turns } ≡ idle → ⊥)
     → (state ≡ Idle → ⊥) ⊎ (StateWithin s state × TurnsWithin s state turns → ⊥)
 busy-how s Idle turns other = inr (λ (w, zero). other (λ i. record { state = Idle; turns = zero i }))
-busy-how s (Seeking r c point) turns other = inl (λ e. let z : _≡_ {A = ℕ} 0 1 = cc in omega arith)
-busy-how s (Holding r c) turns other = inl (λ e. let z : _≡_ {A = ℕ} 0 1 = cc in omega arith)
+busy-how s (Seeking stand) turns other = inl (λ e. let z : _≡_ {A = ℕ} 0 1 = cc in omega arith)
+busy-how s (Holding place) turns other = inl (λ e. let z : _≡_ {A = ℕ} 0 1 = cc in omega arith)
 
 -- 7
 out-same : (state : State) → isOut state ≡ seeksOrHolds state
 out-same Idle = refl
-out-same (Seeking r c point) = refl
-out-same (Holding r c) = refl
+out-same (Seeking stand) = refl
+out-same (Holding place) = refl
 
 pub tasks-out : (s : Settings) (m : Memory) → outOf s (m .records) ≡ tasksOut s m
 tasks-out s m = count-same (λ p. isOut (stateOf m p)) (λ p. seeksOrHolds (stateOf m p)) (s .n)

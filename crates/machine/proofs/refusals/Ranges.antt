@@ -4,23 +4,35 @@ use Prim.Native.Nat.{ℕ, _+_, _-_, _*_, _^_, _≤_, _<_}
 use native.Mathlib.{Nat.{mul-zero, mul-le-mul}, Decide.ℕ-discrete, Omega.arith}
 use lib.Dec.{T, leb, leb→le, ltb→lt}
 use borrow.Author.Tests.{eq-eqb, ne-eqb}
-use Rattle.machine.specs.{Settings.{width, bound}, Records.{pointInRange, stateInRange, turnsInRange}}
+use Rattle.machine.specs.{Settings.{width, bound}, Records.{pointInRange, standInRange, placeInRange}}
+use Rattle.machine.specs.Records.{stateInRange, turnsInRange}
 use Rattle.machine.specs.declared.{Settings.Settings, Point.{Point, the-variants.Scan}}
-use Rattle.machine.specs.declared.State.{State, the-variants.Seeking}
+use Rattle.machine.specs.declared.{Stand.Stand, Place.Place}
+use Rattle.machine.specs.declared.State.{State, the-variants.{Seeking, Holding}}
 use Rattle.counting.proofs.Bools.{and-l, and-r}
 
-module _ (s : Settings) (state : State) (r c : ℕ) (point : Point) (good : T (stateInRange s state))
-    (is : state ≡ Seeking r c point) where
-  -- a task that seeks does so on a block
-  pub seeks-on-block : r + c + 2 ≤ s .k
-  seeks-on-block =
-      let z : T (stateInRange s (Seeking r c point)) = rw is at good in
-      leb→le (r + c + 2) (s .k) (and-l (leb (r + c + 2) (s .k)) (pointInRange s point) z)
+-- a task that seeks stands in range, and one that holds holds a place in range
+pub seeks-in-range : (s : Settings) (state : State) (stand : Stand) → T (stateInRange s state) → state ≡ Seeking stand
+    → T (standInRange s stand)
+seeks-in-range s state stand good is = rw is at good
 
-  pub seeks-at-point : T (pointInRange s point)
-  seeks-at-point =
-      let z : T (stateInRange s (Seeking r c point)) = rw is at good in
-      and-r (leb (r + c + 2) (s .k)) (pointInRange s point) z
+pub holds-in-range : (s : Settings) (state : State) (place : Place) → T (stateInRange s state) → state ≡ Holding place
+    → T (placeInRange s place)
+holds-in-range s state place good is = rw is at good
+
+-- it stands on a block, at a point in range
+module _ (s : Settings) (stand : Stand) (good : T (standInRange s stand)) where
+  pub on-block : stand .r + stand .c + 2 ≤ s .k
+  on-block =
+      leb→le (stand .r + stand .c + 2) (s .k)
+      (and-l (leb (stand .r + stand .c + 2) (s .k)) (pointInRange s (stand .point)) good)
+
+  pub at-point : T (pointInRange s (stand .point))
+  at-point = and-r (leb (stand .r + stand .c + 2) (s .k)) (pointInRange s (stand .point)) good
+
+-- and the place is within the triangle
+pub on-cell : (s : Settings) (place : Place) → T (placeInRange s place) → place .r + place .c + 1 ≤ s .k
+on-cell s place good = leb→le (place .r + place .c + 1) (s .k) good
 
 -- a scan is at one of the block's marks
 pub scans-a-mark : (s : Settings) (point : Point) (h : ℕ) → T (pointInRange s point) → point ≡ Scan h → h < width s
@@ -51,7 +63,7 @@ module _ (s : Settings) where
         go (no d) = subst (λ (b : ℕ). b ≤ 65600 * 254) (bound-long d) product-few
 
 -- a task that seeks has used fewer turns than the bound
-pub seeks-below : (s : Settings) (state : State) (r c turns : ℕ) (point : Point) → T (turnsInRange s state turns)
-    → state ≡ Seeking r c point → turns < bound s
-seeks-below s state r c turns point good is =
-    let z : T (turnsInRange s (Seeking r c point) turns) = rw is at good in ltb→lt turns (bound s) z
+pub seeks-below : (s : Settings) (state : State) (stand : Stand) (turns : ℕ) → T (turnsInRange s state turns)
+    → state ≡ Seeking stand → turns < bound s
+seeks-below s state stand turns good is =
+    let z : T (turnsInRange s (Seeking stand) turns) = rw is at good in ltb→lt turns (bound s) z

@@ -48,14 +48,14 @@ accepted-zero answer = go (answer .told)
 -- what the rules tell is no refusal
 rules-accept : (s : Settings) (kind : Kind) (before after : State) → T (toldAccepted (toldOf s kind before after))
 rules-accept s Ask before Idle = tt
-rules-accept s Ask before (Seeking r c point) = tt
-rules-accept s Ask before (Holding r c) = tt
+rules-accept s Ask before (Seeking stand) = tt
+rules-accept s Ask before (Holding place) = tt
 rules-accept s Turn before Idle = tt
-rules-accept s Turn before (Seeking r c point) = tt
-rules-accept s Turn before (Holding r c) = tt
+rules-accept s Turn before (Seeking stand) = tt
+rules-accept s Turn before (Holding place) = tt
 rules-accept s Release Idle after = tt
-rules-accept s Release (Seeking r c point) after = tt
-rules-accept s Release (Holding r c) after = tt
+rules-accept s Release (Seeking stand) after = tt
+rules-accept s Release (Holding place) after = tt
 
 -- what becomes of a call, and of a setup, that is accepted
 abbrev pub ruled : Settings → Event → Memory → Outcome

@@ -5,12 +5,13 @@ use mathlib.Core.{Path._≡_, Logic._⊎_, Bool.{Bool, true, cond, _&&_}, List.{
 use Prim.Native.Nat.{ℕ, _+_, _-_, _*_, _/_, _≤_, _<_}
 use lib.Dec.{T, eqb}
 use Rattle.machine.specs.Settings.{bound}
-use Rattle.machine.specs.{Places.nameNumber, Records.{isSeeking, isHolding}}
+use Rattle.machine.specs.{Places.placeName, Records.{isSeeking, isHolding}}
 use Rattle.machine.specs.Memory.{Memory, stateOf, turnsIn, largest}
 use Rattle.machine.specs.{Answers.{said, Tells, isAccepted, plain}, Calls.{nameAt, call, setup, turn, release}}
 use Rattle.machine.specs.promises.Ranges.{WithinLimits, TurnsWithin}
 use Rattle.machine.specs.History.{run, Answered, history, turnsOf, turns}
-use Rattle.machine.specs.declared.{Settings.Settings, State.{State, the-variants.{Idle, Seeking, Holding}}}
+use Rattle.machine.specs.declared.{Settings.Settings, Place.Place}
+use Rattle.machine.specs.declared.State.{State, the-variants.{Idle, Seeking, Holding}}
 use Rattle.machine.specs.declared.{Event.Event, Told.Told, Answer.Answer}
 
 -- ---- what the statements speak of
@@ -32,10 +33,9 @@ used s lent events p = turnsOf p (historyOf s lent events) 0
 
 -- task p holds the name n
 pub record HoldsName (s : Settings) (m : Memory) (p n : ℕ) : Type 0 where
-  pub r : ℕ
-  pub c : ℕ
-  pub holds : stateOf m p ≡ Holding r c
-  pub named : n ≡ nameNumber s r c
+  pub place : Place
+  pub holds : stateOf m p ≡ Holding place
+  pub named : n ≡ placeName s place
 
 abbrev pub Seeks : Memory → ℕ → Type 0
 Seeks m p = T (isSeeking (stateOf m p))
@@ -57,8 +57,8 @@ TrueOf s Idle Told.Seeks = ⊥
 TrueOf s Idle (Told.Holds name) = ⊥
 TrueOf s Idle (Told.Freed name) = Unit {0}
 TrueOf s Idle (Told.Refused why) = ⊥
-TrueOf s (Seeking r c point) told = told ≡ Told.Seeks
-TrueOf s (Holding r c) told = told ≡ Told.Holds (nameAt s r c)
+TrueOf s (Seeking stand) told = told ≡ Told.Seeks
+TrueOf s (Holding place) told = told ≡ Told.Holds (nameAt s place)
 
 -- ---- the statements
 

@@ -10,7 +10,8 @@ use Rattle.machine.specs.{Memory.{Memory, stateOf}, Calls.turn, History.
 use Rattle.machine.specs.promises.{Ranges.WithinLimits, Refusing.tasksOut}
 use Rattle.machine.specs.promises.Demands.{SetUp, memoryAfter, historyOf, used, HoldsName, Seeks, HoldsSome}
 use Rattle.machine.specs.promises.Demands.{allAccepted}
-use Rattle.machine.specs.declared.{Settings.Settings, State.{State, the-variants.{Idle, Seeking, Holding}}}
+use Rattle.machine.specs.declared.{Settings.Settings}
+use Rattle.machine.specs.declared.State.{State, the-variants.{Idle, Seeking, Holding}}
 use Rattle.machine.specs.declared.Event.{Event}
 
 -- ---- what the statements speak of
@@ -31,8 +32,8 @@ Near m r c = r + c ≤ m - 1
 -- where a task stands that seeks or holds
 abbrev pub StandsNear : ℕ → State → Type 0
 StandsNear m Idle = Unit {0}
-StandsNear m (Seeking r c point) = Near m r c
-StandsNear m (Holding r c) = Near m r c
+StandsNear m (Seeking stand) = Near m (stand .r) (stand .c)
+StandsNear m (Holding place) = Near m (place .r) (place .c)
 
 -- ---- the statements
 

@@ -5,11 +5,12 @@
 use mathlib.Core.{Path._≡_, Bool.{Bool, true, false, not}, List.List}
 use Prim.Native.Nat.{ℕ, _+_, _≤_, _<_}
 use lib.{Dec.T, ListN.{length, getD}}
-use Rattle.machine.specs.{Settings.{width, own}, Places.{blocks, blockNumber}}
+use Rattle.machine.specs.{Settings.{width, own}, Places.{blocks, blockNumber, cell}}
 use Rattle.machine.specs.{Memory.{Memory, marksNeeded, markIndex, recordOf, stateOf, content}, Turn.access}
 use Rattle.machine.specs.{Answers.isAccepted, Calls.{recordAfter, call}}
-use Rattle.machine.specs.promises.Ranges.{WithinLimits, StateWithin}
-use Rattle.machine.specs.declared.{Settings.Settings, Point.Point, State.{State, the-variants.{Seeking, Holding}}}
+use Rattle.machine.specs.promises.Ranges.{WithinLimits, StandWithin}
+use Rattle.machine.specs.declared.{Settings.Settings, Stand.Stand}
+use Rattle.machine.specs.declared.State.{State, the-variants.{Seeking, Holding}}
 use Rattle.machine.specs.declared.{Register.{Register, the-variants.{X, Mark}}, Op.the-variants.{Read, Write}}
 use Rattle.machine.specs.declared.{Access.{Access, the-variants.{NoAccess, Touch}}, Letter.the-variants.{R, W}}
 use Rattle.machine.specs.declared.{Shown.{Shown, the-variants.{Nothing, Touched}}, Event.Event}
@@ -47,12 +48,12 @@ Writable s (Touch register (Write v)) = Takes s register v
 -- own mark in that block becomes 0; otherwise no access"
 pub record OneAccess (s : Settings) (p : ℕ) : Type 0 where
   pub ask : (state : State) → access s Ask p state ≡ NoAccess
-  pub turn : (r c : ℕ) (point : Point) → StateWithin s (Seeking r c point)
-      → T (touches (access s Turn p (Seeking r c point))) × RegisterNeeded s (access s Turn p (Seeking r c point))
+  pub turn : (stand : Stand) → StandWithin s stand
+      → T (touches (access s Turn p (Seeking stand))) × RegisterNeeded s (access s Turn p (Seeking stand))
   pub release-block : (r c : ℕ) → r + c + 2 ≤ s .k
-      → (access s Release p (Holding r c) ≡ Touch (Mark (blockNumber s r c) (own s p)) (Write 0))
+      → (access s Release p (Holding (cell r c)) ≡ Touch (Mark (blockNumber s r c) (own s p)) (Write 0))
       × Needed s (Mark (blockNumber s r c) (own s p))
-  pub release-edge : (r c : ℕ) → r + c + 1 ≡ s .k → access s Release p (Holding r c) ≡ NoAccess
+  pub release-edge : (r c : ℕ) → r + c + 1 ≡ s .k → access s Release p (Holding (cell r c)) ≡ NoAccess
   -- and what is written is in its register's range
   pub writes : (kind : Kind) (state : State) → Writable s (access s kind p state)
 

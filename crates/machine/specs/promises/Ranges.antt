@@ -7,6 +7,7 @@ use lib.ListN.{getD}
 use Rattle.machine.specs.{Settings.bound, Memory.{Memory, stateOf, turnsIn}}
 use Rattle.machine.specs.declared.Settings.{Settings}
 use Rattle.machine.specs.declared.Point.{Point, the-variants.{WriteX, Scan, WriteMark, ReadX, Clear}}
+use Rattle.machine.specs.declared.{Stand.Stand, Place.Place}
 use Rattle.machine.specs.declared.State.{State, the-variants.{Idle, Seeking, Holding}}
 use Rattle.machine.specs.declared.Row.{Row, the-variants.{Records, Xs, Marks}}
 
@@ -38,17 +39,23 @@ PointWithin s ReadX = Unit {0}
 PointWithin s (Clear direction) = s .mode ≡ 1
 
 -- "idle, or seeking with r, c (r+c ≤ k-2) and a point, or holding with r, c (r+c ≤ k-1)"
+abbrev pub StandWithin : Settings → Stand → Type 0
+StandWithin s stand = (stand .r + stand .c + 2 ≤ s .k) × PointWithin s (stand .point)
+
+abbrev pub PlaceWithin : Settings → Place → Type 0
+PlaceWithin s place = place .r + place .c + 1 ≤ s .k
+
 abbrev pub StateWithin : Settings → State → Type 0
 StateWithin s Idle = Unit {0}
-StateWithin s (Seeking r c point) = (r + c + 2 ≤ s .k) × PointWithin s point
-StateWithin s (Holding r c) = r + c + 1 ≤ s .k
+StateWithin s (Seeking stand) = StandWithin s stand
+StateWithin s (Holding place) = PlaceWithin s place
 
 -- 02, P7: "A seeking or holding record carries the accepted turns since its ask"; "In a seeking record a figure at or
 -- above demand 3's bound is out of range, in a holding one a figure above it". An idle record has none
 abbrev pub TurnsWithin : Settings → State → ℕ → Type 0
 TurnsWithin s Idle turns = turns ≡ 0
-TurnsWithin s (Seeking r c point) turns = turns < bound s
-TurnsWithin s (Holding r c) turns = turns ≤ bound s
+TurnsWithin s (Seeking stand) turns = turns < bound s
+TurnsWithin s (Holding place) turns = turns ≤ bound s
 
 -- "Any other value is out of range, as is an X above N or a mark above 1"
 abbrev pub BadAt : Settings → Memory → Row → ℕ → Type 0
@@ -66,5 +73,5 @@ SomeOutOfRange s m row = (index : ℕ) × OutOfRangeAt s m row index
 -- "A task is out while it seeks or holds."
 abbrev pub seeksOrHolds : State → Bool
 seeksOrHolds Idle = false
-seeksOrHolds (Seeking r c point) = true
-seeksOrHolds (Holding r c) = true
+seeksOrHolds (Seeking stand) = true
+seeksOrHolds (Holding place) = true

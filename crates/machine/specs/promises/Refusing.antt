@@ -7,7 +7,7 @@ use lib.{Dec.T, ListN.length}
 use Rattle.machine.specs.{Settings.width, Records.idle, Memory.{Memory, markIndex, recordOf, stateOf}}
 use Rattle.machine.specs.{Answers.{Said, said, numberOf, isAccepted, plain}, Calls.{call, setup}}
 use Rattle.machine.specs.promises.Ranges.{WithinLimits, NeedsMore, OutOfRangeAt, SomeOutOfRange, seeksOrHolds}
-use Rattle.machine.specs.declared.{Settings.Settings, Point.Point}
+use Rattle.machine.specs.declared.{Settings.Settings, Stand.Stand, Place.Place}
 use Rattle.machine.specs.declared.State.{State, the-variants.{Idle, Seeking, Holding}}
 use Rattle.machine.specs.declared.{Kind.{Kind, the-variants.{Ask, Turn, Release}}, Event.Event}
 use Rattle.machine.specs.declared.{Row.{Row, the-variants.{Records, Xs, Marks}}, Refusal.Refusal}
@@ -62,11 +62,10 @@ abbrev pub OfIdle : Kind → State → Type 0
 OfIdle kind state = ((kind ≡ Turn) ⊎ (kind ≡ Release)) × (state ≡ Idle)
 
 abbrev pub OfSeeking : Kind → State → Type 0
-OfSeeking kind state =
-    ((kind ≡ Ask) ⊎ (kind ≡ Release)) × ((r : ℕ) × (c : ℕ) × (point : Point) × (state ≡ Seeking r c point))
+OfSeeking kind state = ((kind ≡ Ask) ⊎ (kind ≡ Release)) × ((stand : Stand) × (state ≡ Seeking stand))
 
 abbrev pub OfHolding : Kind → State → Type 0
-OfHolding kind state = ((kind ≡ Ask) ⊎ (kind ≡ Turn)) × ((r : ℕ) × (c : ℕ) × (state ≡ Holding r c))
+OfHolding kind state = ((kind ≡ Ask) ⊎ (kind ≡ Turn)) × ((place : Place) × (state ≡ Holding place))
 
 -- 7: how many tasks are out, "seekers and holders counted from the records"
 abbrev pub tasksOut : Settings → Memory → ℕ

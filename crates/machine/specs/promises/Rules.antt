@@ -5,7 +5,7 @@
 use mathlib.Core.Path.{_≡_}
 use Prim.Native.Nat.{ℕ, _+_, _*_, _≤_, _<_}
 use lib.ListN.{getD}
-use Rattle.machine.specs.{Places.blockNumber, Records.idle}
+use Rattle.machine.specs.{Places.{blockNumber, block, cell}, Records.idle}
 use Rattle.machine.specs.Memory.{Memory, stateOf, turnsIn, withRecord, withX, withMark}
 use Rattle.machine.specs.Calls.{Outcome, eventOf, nameAt, standing, call}
 use Rattle.machine.specs.declared.{Settings.Settings, Direction.{Direction, the-variants.{Right, Down}}}
@@ -33,13 +33,13 @@ oneMore m p = turnsIn m p + 1
 -- task p has freed the name at (r, c) and is idle; this access is shown, and the registers are those of m
 abbrev pub freesAt : Settings → ℕ → ℕ → ℕ → Shown → Memory → Outcome
 freesAt s p r c shown m = record {
-  answer = record { told = Told.Freed (nameAt s r c); shown = shown };
+  answer = record { told = Told.Freed (nameAt s (cell r c)); shown = shown };
   memory = withRecord p idle m;
 }
 
 -- task p seeks in the block at (r, c), at this point
 pub record SeeksAt (s : Settings) (p : ℕ) (m : Memory) (r c : ℕ) (point : Point) : Type 0 where
-  pub stands : stateOf m p ≡ Seeking r c point
+  pub stands : stateOf m p ≡ Seeking (block r c point)
   pub on-block : r + c + 2 ≤ s .k
 
 -- the X number of the block at (r, c)
@@ -74,8 +74,8 @@ wroteMark s r c place v = Touched W (Mark (blockNumber s r c) place) v
 
 -- "If then r+c = k-1 the task holds that place in the same turn; else it stands at write X."
 pub data Arrives (s : Settings) (p r c turns : ℕ) (shown : Shown) (m : Memory) : Outcome → Type 0 where
-  edge : r + c + 1 ≡ s .k → Arrives s p r c turns shown m (standsAt s p (Holding r c) turns shown m)
-  block : r + c + 2 ≤ s .k → Arrives s p r c turns shown m (standsAt s p (Seeking r c WriteX) turns shown m)
+  at-edge : r + c + 1 ≡ s .k → Arrives s p r c turns shown m (standsAt s p (Holding (cell r c)) turns shown m)
+  at-block : r + c + 2 ≤ s .k → Arrives s p r c turns shown m (standsAt s p (Seeking (block r c WriteX)) turns shown m)
 
 -- "A move adds 1 to c (right) or r (down)."
 abbrev pub Moves : Settings → ℕ → ℕ → ℕ → Direction → ℕ → Shown → Memory → Outcome → Type 0
@@ -90,33 +90,33 @@ pub data Says (s : Settings) (p : ℕ) (m : Memory) : Kind → Outcome → Type 
   -- "write X: the block's X becomes p+1; scan at 0."
   write-x : {r c : ℕ} → SeeksAt s p m r c WriteX
       → Says s p m Turn
-      (standsAt s p (Seeking r c (Scan 0)) (oneMore m p) (wroteX s r c (p + 1)) (withX (blockNumber s r c) (p + 1) m))
+      (standsAt s p (Seeking (block r c (Scan 0))) (oneMore m p) (wroteX s r c (p + 1)) (withX (blockNumber s r c) (p + 1) m))
   -- "scan at h, mode 1: read mark h of the block. 1: clear, going right. 0: scan at h+1, or write mark if h+1 = N. The
   -- task's own mark is read too."
   long-scan-marked : {r c h : ℕ} → s .mode ≡ 1 → SeeksAt s p m r c (Scan h) → h < s .n → longMark s m r c h ≡ 1
-      → Says s p m Turn (standsAt s p (Seeking r c (Clear Right)) (oneMore m p) (readMark s r c h 1) m)
+      → Says s p m Turn (standsAt s p (Seeking (block r c (Clear Right))) (oneMore m p) (readMark s r c h 1) m)
   long-scan-next : {r c h : ℕ} → s .mode ≡ 1 → SeeksAt s p m r c (Scan h) → h + 1 < s .n → longMark s m r c h ≡ 0
-      → Says s p m Turn (standsAt s p (Seeking r c (Scan (h + 1))) (oneMore m p) (readMark s r c h 0) m)
+      → Says s p m Turn (standsAt s p (Seeking (block r c (Scan (h + 1)))) (oneMore m p) (readMark s r c h 0) m)
   long-scan-last : {r c h : ℕ} → s .mode ≡ 1 → SeeksAt s p m r c (Scan h) → h + 1 ≡ s .n → longMark s m r c h ≡ 0
-      → Says s p m Turn (standsAt s p (Seeking r c WriteMark) (oneMore m p) (readMark s r c h 0) m)
+      → Says s p m Turn (standsAt s p (Seeking (block r c WriteMark)) (oneMore m p) (readMark s r c h 0) m)
   -- "scan, mode 0: read the block's one mark. 1: move right. 0: write mark."
   once-scan-marked : {r c : ℕ} {to : Outcome} → s .mode ≡ 0 → SeeksAt s p m r c (Scan 0) → oneMark s m r c ≡ 1
       → Moves s p r c Right (oneMore m p) (readMark s r c 0 1) m to
       → Says s p m Turn to
   once-scan-clear : {r c : ℕ} → s .mode ≡ 0 → SeeksAt s p m r c (Scan 0) → oneMark s m r c ≡ 0
-      → Says s p m Turn (standsAt s p (Seeking r c WriteMark) (oneMore m p) (readMark s r c 0 0) m)
+      → Says s p m Turn (standsAt s p (Seeking (block r c WriteMark)) (oneMore m p) (readMark s r c 0 0) m)
   -- "write mark: own mark (mode 1) or the one mark (mode 0) becomes 1; read X."
   long-write-mark : {r c : ℕ} → s .mode ≡ 1 → SeeksAt s p m r c WriteMark
       → Says s p m Turn
-      (standsAt s p (Seeking r c ReadX) (oneMore m p) (wroteMark s r c p 1) (withMark (markOf s r c p) 1 m))
+      (standsAt s p (Seeking (block r c ReadX)) (oneMore m p) (wroteMark s r c p 1) (withMark (markOf s r c p) 1 m))
   once-write-mark : {r c : ℕ} → s .mode ≡ 0 → SeeksAt s p m r c WriteMark
       → Says s p m Turn
-      (standsAt s p (Seeking r c ReadX) (oneMore m p) (wroteMark s r c 0 1) (withMark (blockNumber s r c) 1 m))
+      (standsAt s p (Seeking (block r c ReadX)) (oneMore m p) (wroteMark s r c 0 1) (withMark (blockNumber s r c) 1 m))
   -- "read X: if it is p+1, hold (r, c). Else mode 1: clear, going down; mode 0: move down."
   read-x-own : {r c : ℕ} → SeeksAt s p m r c ReadX → xOf s m r c ≡ p + 1
-      → Says s p m Turn (standsAt s p (Holding r c) (oneMore m p) (readX s r c (p + 1)) m)
+      → Says s p m Turn (standsAt s p (Holding (cell r c)) (oneMore m p) (readX s r c (p + 1)) m)
   long-read-x-other : {r c : ℕ} → s .mode ≡ 1 → SeeksAt s p m r c ReadX → (xOf s m r c ≡ p + 1 → ⊥)
-      → Says s p m Turn (standsAt s p (Seeking r c (Clear Down)) (oneMore m p) (readX s r c (xOf s m r c)) m)
+      → Says s p m Turn (standsAt s p (Seeking (block r c (Clear Down))) (oneMore m p) (readX s r c (xOf s m r c)) m)
   once-read-x-other : {r c : ℕ} {to : Outcome} → s .mode ≡ 0 → SeeksAt s p m r c ReadX → (xOf s m r c ≡ p + 1 → ⊥)
       → Moves s p r c Down (oneMore m p) (readX s r c (xOf s m r c)) m to
       → Says s p m Turn to
@@ -126,9 +126,9 @@ pub data Says (s : Settings) (p : ℕ) (m : Memory) : Kind → Outcome → Type 
       → Says s p m Turn to
   -- "Release, mode 1, for a holding task: if r+c ≤ k-2 its own mark in that block becomes 0; otherwise no access. It is
   -- idle. X is never reset."
-  release-block : {r c : ℕ} → s .mode ≡ 1 → stateOf m p ≡ Holding r c → r + c + 2 ≤ s .k
+  release-block : {r c : ℕ} → s .mode ≡ 1 → stateOf m p ≡ Holding (cell r c) → r + c + 2 ≤ s .k
       → Says s p m Release (freesAt s p r c (wroteMark s r c p 0) (withMark (markOf s r c p) 0 m))
-  release-edge : {r c : ℕ} → s .mode ≡ 1 → stateOf m p ≡ Holding r c → r + c + 1 ≡ s .k
+  release-edge : {r c : ℕ} → s .mode ≡ 1 → stateOf m p ≡ Holding (cell r c) → r + c + 1 ≡ s .k
       → Says s p m Release (freesAt s p r c Nothing m)
 
 -- ---- the statements

@@ -4,48 +4,57 @@ use Prim.Native.Nat.{ℕ}
 use native.Mathlib.Omega.{arith}
 use borrow.Author.Tests.{eq-eqb, ne-eqb}
 use Rattle.grid.specs.Triangle.{placeNumber, diagonalNumber}
-use Rattle.machine.{specs.{Calls.nameAt, declared.{Settings.Settings, Name.Name}}, proofs.refusals.Limits.limits}
+use Rattle.machine.specs.{Calls.nameAt, declared.{Settings.Settings, Name.Name, Place.Place}}
+use Rattle.machine.proofs.refusals.{Limits.limits, Ranges.on-cell}
 use Rattle.places.proofs.{Counts.{place-number-fits, diagonal-number-fits}, name_at.Statement.statement}
 use Rattle.places.proofs.name_at.Tie as tie
 
 -- in version 1 the names are the numbers of the triangle of side k
-named-by-row : (s : Settings) (side r c : ℕ) → s .version ≡ 1 → side ≡ s .k
-    → _≡_ {A = Name} (record { 0 = placeNumber side r c }) (nameAt s r c)
-named-by-row s side r c one whole = rw (eq-eqb (s .version) 1 one, whole)
+named-by-row : (s : Settings) (side : ℕ) (place : Place) → s .version ≡ 1 → side ≡ s .k
+    → _≡_ {A = Name} (record { 0 = placeNumber side (place .r) (place .c) }) (nameAt s place)
+named-by-row s side place one whole = rw (eq-eqb (s .version) 1 one, whole)
 
-named-by-diagonal : (s : Settings) (r c : ℕ) → (s .version ≡ 1 → ⊥)
-    → _≡_ {A = Name} (record { 0 = diagonalNumber r c }) (nameAt s r c)
-named-by-diagonal s r c other = rw (ne-eqb (s .version) 1 other)
+named-by-diagonal : (s : Settings) (place : Place) → (s .version ≡ 1 → ⊥)
+    → _≡_ {A = Name} (record { 0 = diagonalNumber (place .r) (place .c) }) (nameAt s place)
+named-by-diagonal s place other = rw (ne-eqb (s .version) 1 other)
 
 place-number-requires : tie.Need-place-number-requires
-place-number-requires c κs = (c .before .before .pre .0, omega arith)
+place-number-requires c κs =
+    let start = c .before .before in
+    (start .pre .0, omega (arith, on-cell (start .args .s) (start .args .place) (start .pre .1)))
 
-cast-t6 : tie.Need-cast-t6
-cast-t6 c =
+cast-t5 : tie.Need-cast-t5
+cast-t5 c =
     let start = c .before .before .before in
     let limit = limits (start .args .s) (start .pre .0) in
+    let on = on-cell (start .args .s) (start .args .place) (start .pre .1) in
     rw (c .place-number .ensures) (place-number-fits _ _ _ (omega arith) (omega arith))
 
 returns : tie.Need-returns
 returns c =
     let a = c .before .before .before .args in
-    rw (c .place-number .ensures) (named-by-row (a .s) _ (a .r) (a .c) (c .before .if1 .taken) (omega arith))
+    rw (c .place-number .ensures) (named-by-row (a .s) _ (a .place) (c .before .if1 .taken) (omega arith))
 
 diagonal-number-requires : tie.Need-diagonal-number-requires
 diagonal-number-requires c κs =
-    let limit = limits (c .before .before .args .s) (c .before .before .pre .0) in
-    omega (arith, limit .k-most)
+    let start = c .before .before in
+    omega (
+      arith,
+      limits (start .args .s) (start .pre .0) .k-most,
+      on-cell (start .args .s) (start .args .place) (start .pre .1),
+    )
 
-cast-t8 : tie.Need-cast-t8
-cast-t8 c =
+cast-t7 : tie.Need-cast-t7
+cast-t7 c =
     let start = c .before .before .before in
     let limit = limits (start .args .s) (start .pre .0) in
+    let on = on-cell (start .args .s) (start .args .place) (start .pre .1) in
     rw (c .diagonal-number .ensures) (diagonal-number-fits _ _ (omega (arith, limit .k-most)))
 
 returns-2 : tie.Need-returns-2
 returns-2 c =
     let a = c .before .before .before .args in
-    rw (c .diagonal-number .ensures) (named-by-diagonal (a .s) (a .r) (a .c) (c .before .if1 .left))
+    rw (c .diagonal-number .ensures) (named-by-diagonal (a .s) (a .place) (c .before .if1 .left))
 
 pub name-at-spec : {M : Type 1} → statement M
-name-at-spec = tie.close (tie.spec place-number-requires cast-t6 returns diagonal-number-requires cast-t8 returns-2)
+name-at-spec = tie.close (tie.spec place-number-requires cast-t5 returns diagonal-number-requires cast-t7 returns-2)
