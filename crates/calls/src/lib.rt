@@ -7,9 +7,12 @@ use machine::Event;
 use machine::Kind;
 use machine::Record;
 use machine::Settings;
+use machine::State;
 use machine::TaskId;
 ghost use Rattle.machine.specs.Calls.{call, setup, ask, turn, release};
 ghost use mathlib.Core.Path.{_≡_};
+ghost use lib.ListN.{replicate};
+ghost use Rattle.machine.specs.Records.{idle};
 ghost use Rattle.machine.specs.Lent.{lent, leaves};
 ghost use Rattle.calls.specs.Made.{outcomeOf};
 
@@ -101,8 +104,21 @@ pub fn release(
     step(s, records, xs, marks, event)
 }
 
-// Setup of records that are handed over and come back.
-fn setup_of(s: Settings, records: [Record; 256], xs: &mut [u32], marks: &mut [u8]) -> Made
+// ---- the same for callers that keep 256 records by value: they are lent to the calls above and come
+// back, so that whoever calls these needs no walk
+
+// Records for a board of any size, all idle: what a new supervisor begins with.
+pub fn idle_records() -> [Record; 256]
+    ensures { λ records. ⌜ records ≡ replicate 256 idle ⌝ }
+{
+    [Record {
+        state: State::Idle,
+        turns: 0,
+    }; 256]
+}
+
+// Setup.
+pub fn setup_of(s: Settings, records: [Record; 256], xs: &mut [u32], marks: &mut [u8]) -> Made
     ensures { λ made. ⌜ leaves (made .answer) (lent (made .records) (now (xs .exit)) (now (marks .exit))) ≡ setup s (lent records (now (xs .entry)) (now (marks .entry))) ⌝ }
 {
     let mut mine = records;
@@ -113,8 +129,8 @@ fn setup_of(s: Settings, records: [Record; 256], xs: &mut [u32], marks: &mut [u8
     }
 }
 
-// A call of one task on records that are handed over and come back.
-fn step_of(
+// A call of one task, by its event.
+pub fn step_of(
     s: Settings,
     records: [Record; 256],
     xs: &mut [u32],
@@ -131,8 +147,58 @@ fn step_of(
     }
 }
 
-// A call for callers that hold 256 records by value: they are lent to the calls above and come back,
-// so that whoever calls this needs no walk.
+// Ask.
+pub fn ask_of(
+    s: Settings,
+    records: [Record; 256],
+    xs: &mut [u32],
+    marks: &mut [u8],
+    task: TaskId,
+) -> Made
+    ensures { λ made. ⌜ leaves (made .answer) (lent (made .records) (now (xs .exit)) (now (marks .exit))) ≡ call s (ask (task .0)) (lent records (now (xs .entry)) (now (marks .entry))) ⌝ }
+{
+    let event = Event {
+        kind: Kind::Ask,
+        task: task,
+    };
+    step_of(s, records, xs, marks, event)
+}
+
+// Turn.
+pub fn turn_of(
+    s: Settings,
+    records: [Record; 256],
+    xs: &mut [u32],
+    marks: &mut [u8],
+    task: TaskId,
+) -> Made
+    ensures { λ made. ⌜ leaves (made .answer) (lent (made .records) (now (xs .exit)) (now (marks .exit))) ≡ call s (turn (task .0)) (lent records (now (xs .entry)) (now (marks .entry))) ⌝ }
+{
+    let event = Event {
+        kind: Kind::Turn,
+        task: task,
+    };
+    step_of(s, records, xs, marks, event)
+}
+
+// Release.
+pub fn release_of(
+    s: Settings,
+    records: [Record; 256],
+    xs: &mut [u32],
+    marks: &mut [u8],
+    task: TaskId,
+) -> Made
+    ensures { λ made. ⌜ leaves (made .answer) (lent (made .records) (now (xs .exit)) (now (marks .exit))) ≡ call s (release (task .0)) (lent records (now (xs .entry)) (now (marks .entry))) ⌝ }
+{
+    let event = Event {
+        kind: Kind::Release,
+        task: task,
+    };
+    step_of(s, records, xs, marks, event)
+}
+
+// Setup, or a call of one task, by what is called.
 pub fn make(
     s: Settings,
     call: Call,

@@ -2,6 +2,7 @@
 // in lent room.
 
 use calls::Call;
+use calls::idle_records;
 use calls::make;
 use machine::Event;
 use machine::Kind;
@@ -10,7 +11,6 @@ use machine::Reading;
 use machine::Record;
 use machine::Refusal;
 use machine::Settings;
-use machine::State;
 use machine::TaskId;
 use machine::Told;
 use machine::Writing;
@@ -131,16 +131,6 @@ fn completed(told: Told, turns: u32) -> u32
 }
 
 // ---- the run
-
-// The records of the largest settings, all idle.
-fn idle_records() -> [Record; 256]
-    ensures { λ records. ⌜ records ≡ replicate 256 idle ⌝ }
-{
-    [Record {
-        state: State::Idle,
-        turns: 0,
-    }; 256]
-}
 
 // As many X numbers as the largest settings need, all 0.
 fn no_xs() -> [u32; 120]

@@ -13,3 +13,4 @@ pub mod Demand3
 pub mod Setups
 pub mod LightExact
 pub mod Reached
+pub mod Notes

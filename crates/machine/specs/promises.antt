@@ -11,3 +11,4 @@ pub mod Demands
 pub mod Setups
 pub mod Light
 pub mod Reached
+pub mod Notes

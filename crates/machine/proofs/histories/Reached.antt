@@ -2,26 +2,32 @@
 -- the record and the answer that it leaves.
 use mathlib.Core.{Path.{_≡_, refl, sym, ap, subst, _∙_}, Logic.inl, Bool.true≢false}
 use mathlib.Core.List.{List, [], _∷_, _++_}
-use Prim.Native.Nat.{ℕ, _≤_}
+use Prim.Native.Nat.{ℕ, _≤_, _<_}
 use native.Mathlib.Omega.{arith}
 use lib.Dec.{T}
-use Rattle.machine.specs.{Memory.{Memory, recordOf, stateOf}, Answers.{said, toldAccepted}}
-use Rattle.machine.specs.Calls.{Outcome, eventOf, standing, freed, nextState, refuseOr, verdictOf, call, setup}
+use Rattle.machine.specs.{Records.idle, Memory.{Memory, recordOf, stateOf, viewOf}, Answers.{said, toldAccepted, plain}}
+use Rattle.machine.specs.{Refusals.setupVerdict, Calls.{Outcome, eventOf, standing, freed, nextState, refuseOr}}
+use Rattle.machine.specs.Calls.{verdictOf, call, cleared, setup}
 use Rattle.machine.specs.promises.Demands.{SetUp, memoryAfter, HoldsName}
-use Rattle.machine.specs.promises.{Refusing.callSays, OneAccess.AcceptedIn}
+use Rattle.machine.specs.promises.{Ranges.WithinLimits, Refusing.{SomeRowShort, callSays}, OneAccess.AcceptedIn}
 use Rattle.machine.specs.promises.Reached.{Reached, Relied, NamesFollow, ReachedPromises}
 use Rattle.machine.specs.Places.{cell}
 use Rattle.machine.specs.declared.{Settings.Settings, State.{State, the-variants.{Idle, Seeking, Holding}}}
 use Rattle.machine.specs.declared.{Kind.{Kind, the-variants.{Ask, Turn, Release}}, Event.Event, Verdict.Verdict}
 use Rattle.machine.specs.declared.Told.{Told, the-variants.{Holds, Freed}}
 use Rattle.machine.proofs.refusals.{Passing.passed, Refusing.{accepted-zero, ruled, ruled-accepted}}
-use Rattle.machine.proofs.calls.{Fresh.setup-within, Outcomes.{Called, taken, refused, called}}
+use Rattle.machine.proofs.calls.{Fresh.setup-within, SettingUp.setup-clears, Outcomes.{Called, taken, refused, called}}
 use Rattle.machine.proofs.calls.Telling.{state-after, told-after, each-answer-tells}
 use Rattle.machine.proofs.{calls.After.others-record, bridge.Histories.{run-append, always-in-order}}
 use Rattle.machine.proofs.histories.Demand3.{held-names-differ, held-names-below, seeker-never-refused}
 use Rattle.machine.proofs.histories.Demand3.{served-within, each-turns-told}
 
 -- ---- how a memory is reached
+
+takes-fresh : (s : Settings) (lent : Memory) → WithinLimits s → (SomeRowShort s lent → ⊥)
+    → ((p : ℕ) → p < s .n → recordOf lent p ≡ idle) → SetUp s lent
+takes-fresh s lent fair long fresh =
+    setup-clears s lent .done .1 (λ bad. bad fair, (long, (λ (p, low, busy). busy (fresh p low), tt)))
 
 reached-by-setup : (s : Settings) (lent : Memory) → SetUp s lent → Reached s (setup s lent .memory)
 reached-by-setup s lent ok = record { lent = lent; events = []; set-up = ok; left = refl }
@@ -34,6 +40,20 @@ reached-kept s event m h = record {
   left = ap (λ (before : Memory). call s event before .memory) (h .left)
       ∙ sym (run-append s (h .events) (event ∷ []) (setup s (h .lent) .memory));
 }
+
+-- what a setup comes to by its tests
+abbrev setUpBy : Settings → Memory → Verdict → Outcome
+setUpBy s m verdict = refuseOr verdict m (record { answer = plain Told.Done; memory = cleared s m })
+
+reached-again : (s : Settings) (m : Memory) → Reached s m → Reached s (setup s m .memory)
+reached-again s m h = go (setupVerdict s (viewOf s (m .records) 0) m) refl
+  where
+    go : (verdict : Verdict) → setupVerdict s (viewOf s (m .records) 0) m ≡ verdict
+        → Reached s (setUpBy s m verdict .memory)
+    go (Verdict.Refused why) e = h
+    go Verdict.Accepted e =
+        subst (λ (verdict : Verdict). Reached s (setUpBy s m verdict .memory)) e
+        (reached-by-setup s m (ap (λ (verdict : Verdict). setUpBy s m verdict .answer) e))
 
 -- ---- what is so in a reached memory
 
@@ -70,14 +90,14 @@ relied-after s lent events ok = record {
 -- ---- what one call does to names
 
 -- which case an answer is, and the name in it
-abbrev caseOf : Told → ℕ
+abbrev pub caseOf : Told → ℕ
 caseOf Told.Done = 0
 caseOf Told.Seeks = 1
 caseOf (Holds name) = 2
 caseOf (Freed name) = 3
 caseOf (Told.Refused why) = 4
 
-abbrev nameIn : Told → ℕ
+abbrev pub nameIn : Told → ℕ
 nameIn Told.Done = 0
 nameIn Told.Seeks = 0
 nameIn (Holds name) = name .0
@@ -141,10 +161,7 @@ others-kept s event m q other = go (verdictOf s event m) refl
     go : (verdict : Verdict) → verdictOf s event m ≡ verdict
         → recordOf (refuseOr verdict m (ruled s event m) .memory) q ≡ recordOf m q
     go (Verdict.Refused why) e = refl
-    go Verdict.Accepted e =
-        let tests = passed s event m (rw e (ruled-accepted s event m)) in
-        others-record s m (event .task .0) (event .kind)
-        (stateOf m (event .task .0)) q other
+    go Verdict.Accepted e = others-record s m (event .task .0) (event .kind) (stateOf m (event .task .0)) q other
 
 follow : (s : Settings) (event : Event) (m : Memory) → NamesFollow s event m
 follow s event m = record {
@@ -164,8 +181,10 @@ follow s event m = record {
 
 pub reached-promises : ReachedPromises
 reached-promises = record {
+  takes = takes-fresh;
   begins = reached-by-setup;
   kept = reached-kept;
+  again = reached-again;
   relied = λ s m h. subst (Relied s) (sym (h .left)) (relied-after s (h .lent) (h .events) (h .set-up));
   names-follow = follow;
 }

@@ -1,14 +1,14 @@
 -- For whoever calls: a memory is reached where an accepted setup, and then some calls with the same settings, left it.
--- Setup reaches and every call keeps that, so that it can stand in the invariant of a supervisor's loop; demand 3 is
+-- Setup reaches, and every call and every further setup keeps that, so that it can stand in the invariant of a supervisor's loop; demand 3 is
 -- said of any reached memory, and for every permitted settings there is one (`SetupTakes`). Beside it, of any memory:
 -- what one call does to names, told by its answer. Theorem: `reached-promises`.
 use mathlib.Core.{Path._≡_, Logic._↔_, List.List}
 use Prim.Native.Nat.{ℕ, _+_, _*_, _/_, _≤_, _<_}
 use lib.Dec.{T}
-use Rattle.machine.specs.{Settings.bound, Memory.{Memory, recordOf, turnsIn}}
+use Rattle.machine.specs.{Settings.bound, Records.idle, Memory.{Memory, recordOf, turnsIn}}
 use Rattle.machine.specs.{Answers.isAccepted, Calls.{call, setup, turn}}
 use Rattle.machine.specs.promises.Demands.{SetUp, memoryAfter, HoldsName, Seeks}
-use Rattle.machine.specs.promises.{Refusing.callSays, OneAccess.AcceptedIn}
+use Rattle.machine.specs.promises.{Ranges.WithinLimits, Refusing.{SomeRowShort, callSays}, OneAccess.AcceptedIn}
 use Rattle.machine.specs.declared.{Settings.Settings, Kind.the-variants.Release, Event.Event, Told.Told}
 
 pub record Reached (s : Settings) (m : Memory) : Type 0 where
@@ -44,7 +44,12 @@ pub record NamesFollow (s : Settings) (event : Event) (m : Memory) : Type 0 wher
       → event .kind ≡ Release
 
 pub record ReachedPromises : Type 0 where
+  -- setup is accepted with permitted settings, rows long enough and idle records
+  pub takes : (s : Settings) (lent : Memory) → WithinLimits s → (SomeRowShort s lent → ⊥)
+      → ((p : ℕ) → p < s .n → recordOf lent p ≡ idle) → SetUp s lent
   pub begins : (s : Settings) (lent : Memory) → SetUp s lent → Reached s (setup s lent .memory)
   pub kept : (s : Settings) (event : Event) (m : Memory) → Reached s m → Reached s (call s event m .memory)
+  -- a further setup, accepted or declined, keeps it too
+  pub again : (s : Settings) (m : Memory) → Reached s m → Reached s (setup s m .memory)
   pub relied : (s : Settings) (m : Memory) → Reached s m → Relied s m
   pub names-follow : (s : Settings) (event : Event) (m : Memory) → NamesFollow s event m

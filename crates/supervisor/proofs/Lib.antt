@@ -1,0 +1,2 @@
+-- What each step of the supervisor keeps.
+mod Keeping
