@@ -2,8 +2,9 @@
 -- row by row.
 use mathlib.Core.{Path._≡_, List.List}
 use Prim.Native.Nat.{ℕ}
-use Rattle.machine.specs.{Memory.Memory, Lent.{lent, leaves}, declared.Settings.Settings}
-use Rattle.machine.proofs.calls.Lent.{leaves-determined}
+use Rattle.demands.specs.{Memory.Memory, Lent.{lent, leaves}}
+use Rattle.machine.specs.declared.Settings.{Settings}
+use Rattle.demands.proofs.calls.Lent.{leaves-determined}
 use Rattle.calls.specs.{Made.outcomeOf, declared.{Call.Call, Made.Made}}
 
 pub made-determined : (s : Settings) (call : Call) (before : Memory) (one other : Made) (xs xs′ marks marks′ : List ℕ)
