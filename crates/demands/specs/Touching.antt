@@ -1,4 +1,5 @@
--- The one access of a call on a memory: what it sees there, and what it leaves. `store` changes one element at the most.
+-- The one access of a call, on a memory: what it sees there, and what it leaves. `store` changes one element at the
+-- most.
 use mathlib.Core.Bool.{cond}
 use Prim.Native.Nat.{ℕ}
 use Rattle.machine.specs.Turn.{opWrites, seen, left}

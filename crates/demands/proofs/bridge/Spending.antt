@@ -4,15 +4,14 @@ use mathlib.Core.{Path.{_≡_, refl}, Bool.false}
 use Prim.Native.Nat.{ℕ, _+_, _≤_, _<_, zero-le}
 use native.Mathlib.Nat.{le-trans}
 use lib.Dec.{T}
-use borrow.Author.Tests.{not-false}
 use Rattle.machine.specs.{Settings.{width, bound}, Records.{isSeeking, isHolding, stateInRange}, Turn.begin}
 use Rattle.demands.specs.{Memory.{Memory, stateOf}, Refusals.wrongMoment, Calls.nextState}
 use Rattle.machine.specs.promises.Ranges.{WithinLimits}
 use Rattle.machine.specs.declared.Settings.{Settings}
 use Rattle.machine.specs.declared.Point.{Point, the-variants.{WriteX, Scan, WriteMark, ReadX, Clear}}
 use Rattle.machine.specs.declared.{State.{State, the-variants.{Idle, Seeking, Holding}}, Kind.the-variants.Turn}
-use Rattle.demands.proofs.{refusals.Passed.Fit, calls.Spending.Spending, bridge.AsGrid.{stageOf, standOf}}
-use Rattle.demands.proofs.bridge.Steps.{arrives, in-place, caller-moves}
+use Rattle.demands.proofs.{refusals.Passed.Fit, calls.Spending.{Spending, turner-seeks}}
+use Rattle.demands.proofs.bridge.{AsGrid.{stageOf, standOf}, Steps.{arrives, in-place, caller-moves}}
 use Rattle.machine.proofs.bridge.AsRules.{rulesOf, bound-enough}
 use Rattle.grid.proofs.Stands.{Rules, Stand, idle, at}
 use Rattle.grid.proofs.Spent.{Within, OutWithin, SeeksAt, arrives-within, turn-within, seeking-within, holding-within}
@@ -46,7 +45,7 @@ module _ (s : Settings) (fair : WithinLimits s) where
   turned-on m sound p t below e h =
       out-within rules (standOf (width s) (nextState s Turn p (stateOf m p) m)) (t + 1)
       (turn-within rules t (caller-moves s fair m sound p below Turn refl e .1)
-      (seeks-at (width s) (stateOf m p) (rw (not-false (isSeeking (stateOf m p)) e) tt))
+      (seeks-at (width s) (stateOf m p) (turner-seeks (stateOf m p) e))
       (in-place s fair (stateOf m p) (sound .in-range .records p below)) h)
 
   pub seeker-below : (state : State) (t : ℕ) → T (stateInRange s state) → T (isSeeking state) → SpentAt state t

@@ -15,6 +15,7 @@ use Rattle.demands.specs.promises.OneAccess.{Needed, RegisterNeeded, acc
 use Rattle.demands.specs.promises.OneAccess.{SameEnd, OnlyTheRegisterReadBears, AtX, AtMark, WritesX, WritesMark}
 use Rattle.demands.specs.promises.OneAccess.{HasWritten, ChangesOnly, WrittenChanges}
 use Rattle.demands.specs.promises.OneAccess.{OnlyTheRegisterWrittenChanges, ReadIs, WrittenIs, Shows, EachShows}
+use Rattle.machine.proofs.bridge.Accesses.{write-sees-nothing, read-shown, write-shown}
 use Rattle.demands.proofs.refusals.{Refusing.ruled, Passing.{passed, by-the-rules}, Passed.{Passed, Fit}}
 use Rattle.demands.proofs.calls.OneAccess.{call-needed}
 
@@ -114,7 +115,8 @@ only-the-register-written-changes s event m t =
 same-value : (s : Settings) (m m′ : Memory) (a : Access) → SameRead s a m m′ → value s a m ≡ value s a m′
 same-value s m m′ NoAccess same = refl
 same-value s m m′ (Touch register Read) same = same
-same-value s m m′ (Touch register (Write v)) same = refl
+same-value s m m′ (Touch register (Write v)) same =
+    sym (write-sees-nothing v (content s register m)) ∙ write-sees-nothing v (content s register m′)
 
 unread-same : (s : Settings) (m m′ : Memory) (a : Access) → T (not (reads a)) → SameRead s a m m′
 unread-same s m m′ NoAccess t = tt
@@ -226,8 +228,9 @@ module _ (s : Settings) (event : Event) (m : Memory) (t : AcceptedIn s event m) 
 
   shows : (a : Access) → accessOf s event m ≡ a → Shows s event m (shownBy a (value s a m))
   shows NoAccess is = none-is is
-  shows (Touch register Read) is = read-is register is
-  shows (Touch register (Write v)) is = written-is register v is
+  shows (Touch register Read) is = subst (Shows s event m) (read-shown register (content s register m)) (read-is register is)
+  shows (Touch register (Write v)) is =
+      subst (Shows s event m) (write-shown register v (value s (Touch register (Write v)) m)) (written-is register v is)
 
 pub each-shows : EachShows
 each-shows s event m t =

@@ -12,7 +12,8 @@ use Rattle.machine.specs.promises.Ranges.{WithinLimits}
 use Rattle.machine.specs.declared.{Settings.Settings, State.{State, the-variants.{Idle, Seeking, Holding}}}
 use Rattle.machine.specs.declared.Kind.{Kind, the-variants.{Ask, Turn, Release}}
 use Rattle.demands.proofs.{refusals.Passed.Fit, calls.Fitting.next-in-range}
-use Rattle.machine.proofs.bridge.{Outs.{begin-out, stand-out}, Turns.{ask-counts-anew, turn-counts, release-leaves-none}}
+use Rattle.machine.proofs.bridge.Outs.{begin-out, stand-out}
+use Rattle.machine.proofs.bridge.Turns.{ask-counts-anew, turn-counts, release-leaves-none}
 
 pub record Spending (s : Settings) : Type 1 where
   -- a task in this state may have used so many turns since its ask
@@ -28,7 +29,7 @@ pub record Spending (s : Settings) : Type 1 where
 -- ---- who turns
 
 -- who has a turn seeks
-turner-seeks : (state : State) → wrongMoment Turn state ≡ false → T (isSeeking state)
+pub turner-seeks : (state : State) → wrongMoment Turn state ≡ false → T (isSeeking state)
 turner-seeks state e = rw (not-false (isSeeking state) e) tt
 
 is-out : (b : Bool) → b ≡ true → T b

@@ -1,5 +1,5 @@
--- 01, "Memory that is lent", with 02: how much of each lent row is needed, and which values are in range, in plain terms
--- of numbers. None of the tests of the definitions is cited here; `refusal-exact` proves that they say the same.
+-- 01, "Memory that is lent", with 02: how much of each lent row is needed, and which values are in range, in plain
+-- terms of numbers. None of the tests of the definitions is cited here; `refusal-exact` proves that they say the same.
 use mathlib.Core.{Path._≡_, Logic._⊎_}
 use Prim.Native.Nat.{ℕ, _-_, _*_, _/_, _<_}
 use lib.ListN.{getD}

@@ -1,5 +1,5 @@
--- Which mark a turn writes, what an operation sees and leaves, and what is shown of it, as laws of `pointAccess`, `seen`,
--- `left` and `shownBy`.
+-- Which mark a turn writes, what an operation sees and leaves, and what is shown of it, as laws of `pointAccess`,
+-- `seen`, `left` and `shownBy`.
 use mathlib.Core.{Path.{_≡_, refl, sym, ap}, Bool.not}
 use Prim.Native.Nat.{ℕ}
 use Rattle.machine.specs.{Places.blockNumber, Grid.pointAccess}
@@ -14,11 +14,11 @@ module _ (s : Settings) (p r c : ℕ) where
   abbrev marks : ℕ → Access
   marks place = Touch (Mark (blockNumber s r c) place) (Write 1)
 
-  -- one-time the block's one mark is written, whose task it is
+  -- the write of a mark of the block: one-time of the one mark, whichever task it is
   pub marks-the-one : s .mode ≡ 0 → marks 0 ≡ pointAccess s p r c WriteMark
   marks-the-one once = ap marks (sym (own-one-time s p once))
 
-  -- long-lived the task's own
+  -- long-lived of the task's own
   pub marks-its-own : s .mode ≡ 1 → marks p ≡ pointAccess s p r c WriteMark
   marks-its-own long = ap marks (sym (own-long-lived s p long))
 

@@ -1,4 +1,4 @@
--- The ranges of a record, and what its tests say, against the test that the definitions make for each.
+-- Each range of a record, and who is idle and who is out, against the test that the definitions make for it.
 use mathlib.Core.{Path.{_≡_, refl, ap}, Logic.{_⊎_, inl, inr, _↔_}, Bool._&&_}
 use Prim.Native.Nat.{ℕ, _+_, _<_}
 use native.Mathlib.Omega.{arith}

@@ -5,10 +5,10 @@ use mathlib.Core.{Path._≡_, Logic._↔_, List.{[], _∷_}}
 use Prim.Native.Nat.{ℕ, _+_, _-_, _*_, _/_, _≤_}
 use lib.Dec.{T}
 use Rattle.grid.specs.Triangle.{Numbering}
-use Rattle.machine.specs.{Places.{blocks, blockNumber, names, cell, placeName}, Records.{isIdle, isSeeking, isHolding}}
+use Rattle.machine.specs.Places.{blocks, blockNumber, names, cell, placeName}
+use Rattle.machine.specs.{Records.{isIdle, isSeeking, isHolding}, RefusalNumbers.{refusalSaid, numberOf}}
 use Rattle.machine.specs.declared.{Settings.Settings, Stand.Stand, Place.Place}
 use Rattle.machine.specs.declared.State.{State, the-variants.{Idle, Seeking, Holding}}
-use Rattle.machine.specs.RefusalNumbers.{refusalSaid, numberOf}
 use Rattle.machine.specs.declared.Row.{Row, the-variants.{Records, Xs, Marks}}
 use Rattle.machine.specs.declared.Refusal.{Refusal, the-variants.{Limits, ShortRow, BusyRow, OutOfRange}}
 use Rattle.machine.specs.declared.Refusal.the-variants.{NoSuchTask, OneTime, TaskIdle, TaskSeeks, TaskHolds}

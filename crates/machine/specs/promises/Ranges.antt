@@ -1,6 +1,6 @@
 -- 01, "What the supervisor holds" and "Memory that is lent", with 02: the limits of the settings, and which records are
--- in range, in plain terms of numbers. None of the tests of the definitions is cited here; `limits-tested`, `state-line`
--- and `turns-line` prove that they say the same.
+-- in range, in plain terms of numbers. None of the tests of the definitions is cited here; `limits-tested`,
+-- `state-line` and `turns-line` prove that they say the same.
 use mathlib.Core.{Path._≡_, Logic._⊎_, Bool.{Bool, true, false}}
 use Prim.Native.Nat.{ℕ, _+_, _≤_, _<_}
 use Rattle.machine.specs.Settings.{bound}
