@@ -16,7 +16,7 @@ use Rattle.machine.specs.declared.Verdict.{Verdict}
 use Rattle.demands.proofs.calls.Fresh.{fill-at, setup-within, setup-memory, fresh-idle, fresh-none-out}
 use Rattle.demands.proofs.calls.{Fresh.fresh-fit, Outcomes.{Called, taken, refused, called}, Fitting.accept-fits}
 use Rattle.demands.proofs.bridge.AsGrid.{standOf, gridOf, all-unmarked}
-use Rattle.demands.proofs.{calls.Spending.{Spending, spent-after, turns-stay}, bridge.Spending.spending}
+use Rattle.demands.proofs.{calls.Spending.{spent-after, turns-stay}, bridge.Spending.spending}
 use Rattle.demands.proofs.calls.After.{caller-record, others-record, others-after}
 use Rattle.demands.proofs.{bridge.Steps.{in-place, accepted-step}, refusals.{Passed.{Fit, May}, Passing.passed}}
 use Rattle.demands.proofs.refusals.Refusing.{ruled, ruled-accepted}

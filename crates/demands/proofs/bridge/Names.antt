@@ -8,7 +8,7 @@ use Rattle.demands.specs.Memory.{Memory, stateOf}
 use Rattle.demands.specs.promises.Demands.{SetUp, memoryAfter}
 use Rattle.machine.specs.promises.Ranges.{WithinLimits, PlaceWithin}
 use Rattle.machine.specs.declared.{Settings.Settings, Place.Place, State.the-variants.Holding, Event.Event}
-use Rattle.machine.proofs.refusals.Within.{place-line}
+use Rattle.machine.proofs.refusals.RecordLines.{place-line}
 use Rattle.demands.proofs.{calls.Fresh.setup-within, bridge.AsGrid.gridOf}
 use Rattle.demands.proofs.bridge.Histories.{rules, all-in-place, InOrder, always-in-order}
 use Rattle.grid.proofs.Invariant.{AllInPlace, one-holder}

@@ -1,5 +1,5 @@
 -- An accepted call of the machine is a step of its grid: the one place where the two are compared, point by point.
-use mathlib.Core.{Path.{_≡_, refl, sym, ap, subst, _∙_}, Logic.{_⊎_, inl, inr}, Bool.{true≢false, false}, List.List}
+use mathlib.Core.{Path.{_≡_, refl, sym, ap, subst, _∙_}, Logic.{_⊎_, inl, inr}, Bool.{true≢false, false}}
 use Prim.Native.Nat.{ℕ, _+_, _≤_, _<_}
 use native.Mathlib.{Decide.{decLe, ℕ-discrete}, Omega.arith}
 use lib.{Dec.{T, ltb→lt, eqb→eq}, ListN.getD}

@@ -1,14 +1,14 @@
 -- J0: after every call of a history the rows are long enough and every needed value is in range, so tests 1 to 3 pass
 -- for good. Every accepted call could break it, and none does: it writes one register and one record, each with a value
 -- in range. Of the turns in that record a call by itself does not say so; a history does (`bridge/Spending`).
-use mathlib.Core.{Path.{_≡_, refl, subst}, Bool.{Bool, false}, List.{List, [], _∷_}}
+use mathlib.Core.{Path.{_≡_, subst}, Bool.{Bool, false}, List.{List, [], _∷_}}
 use Prim.Native.Nat.{ℕ, zero, suc, _+_, _≤_, _<_}
 use native.Mathlib.{Decide.{decLe, ℕ-discrete}, Omega.arith}
 use lib.{Dec.{T, leb, ltb→lt, le→leb, lt→ltb, lit≤}, ListN.{getD, set, length-set}}
 use borrow.Author.Tests.{eq-eqb}
 use Rattle.machine.specs.{Settings.width, Records.{idle, pointInRange, stateInRange, turnsInRange}}
 use Rattle.machine.specs.{Grid.{pointAccess, arrive, move, leave, pointTurned}, Turn.{standAccess, access, turnsAfter}}
-use Rattle.machine.specs.Places.{block, cell}
+use Rattle.machine.specs.Places.{block}
 use Rattle.demands.specs.Memory.{Memory, markIndex, stateOf, turnsIn, withRecord, withX, withMark, put, xInRange}
 use Rattle.demands.specs.{Memory.markInRange, Touching.{value, store}, Refusals.wrongMoment}
 use Rattle.demands.specs.Calls.{nextState, recordAfter, accept}

@@ -13,7 +13,7 @@ use Rattle.machine.specs.declared.{Settings.Settings, State.the-variants.Idle, 
 use Rattle.machine.specs.declared.{Told.Told, Answer.Answer}
 use Rattle.demands.proofs.refusals.{Lines.short-line, Refusing.{within, started, setup-exactly}}
 use Rattle.demands.proofs.refusals.Passed.{Long, Fit, none-short-long}
-use Rattle.machine.proofs.refusals.Within.{idle-record-tested}
+use Rattle.machine.proofs.refusals.RecordLines.{idle-record-tested}
 use Rattle.counting.proofs.{Tested.{misses, cannot-fail}, Searching.count-none}
 
 -- ---- rows that were filled

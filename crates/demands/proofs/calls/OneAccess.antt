@@ -16,7 +16,8 @@ use Rattle.machine.specs.declared.Access.the-variants.{NoAccess, Touch}
 use Rattle.machine.specs.declared.{Kind.{Kind, the-variants.{Ask, Turn, Release}}, Event.Event}
 use Rattle.machine.specs.promises.Ranges.{WithinLimits, StandWithin}
 use Rattle.demands.specs.promises.OneAccess.{Needed, touches, RegisterNeeded, EachOneAccess, accessOf}
-use Rattle.machine.proofs.{refusals.{Ranges.scans-a-mark, Within.{point-line, stand-line}}, bridge.AsRules.own-below}
+use Rattle.machine.proofs.refusals.{Ranges.scans-a-mark, RecordLines.{point-line, stand-line}}
+use Rattle.machine.proofs.bridge.AsRules.{own-below}
 use Rattle.demands.proofs.{refusals.Passed.Passed, calls.Fitting.access-writes}
 use Rattle.demands.proofs.bridge.AsGrid.{block-below, mark-below}
 

@@ -7,7 +7,7 @@ use lib.{Dec.T, ListN.{length, getD, take, replicate}}
 use Rattle.machine.specs.{Places.blocks, Records.idle}
 use Rattle.demands.specs.{Memory.{Memory, marksNeeded, viewOf}, Refusals.setupVerdict}
 use Rattle.demands.specs.{Answers.{said, isAccepted, plain}, Calls.{refuseOr, setup}}
-use Rattle.machine.specs.declared.{Settings.Settings, State.{State, the-variants.Idle}, Record.Record, Verdict.Verdict}
+use Rattle.machine.specs.declared.{Settings.Settings, Record.Record, Verdict.Verdict}
 use Rattle.machine.specs.declared.{Told.Told, Answer.Answer}
 use Rattle.demands.specs.promises.{Refusing.{NoneHolds, setupLines, setupSays}, Surplus.needed}
 use Rattle.demands.specs.promises.SettingUp.{clear, EachSetupClears}

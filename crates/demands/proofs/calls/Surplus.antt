@@ -13,7 +13,7 @@ use Rattle.demands.specs.{Touching.{value, store}, Refusals.{rowShort, s
 use Rattle.demands.specs.Calls.{Outcome, toldOf, nextState, shownOf, recordAfter, accept, refuseOr, verdictOf}
 use Rattle.demands.specs.Calls.{call, cleared, setup}
 use Rattle.machine.specs.declared.{Settings.Settings, State.State, Record.Record}
-use Rattle.machine.specs.declared.{Register.{Register, the-variants.{X, Mark}}, Op.Op}
+use Rattle.machine.specs.declared.Register.{Register, the-variants.{X, Mark}}
 use Rattle.machine.specs.declared.{Access.{Access, the-variants.{NoAccess, Touch}}, Kind.Kind, Event.Event}
 use Rattle.machine.specs.declared.{Verdict.Verdict, Told.Told}
 use Rattle.demands.specs.promises.OneAccess.{Needed, RegisterNeeded, accessOf, AcceptedIn}

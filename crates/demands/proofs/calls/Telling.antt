@@ -3,7 +3,7 @@ use mathlib.Core.{Path.{_≡_, refl, sym, ap, subst, _∙_}, List.{List, [], _�
 use Prim.Native.Nat.{ℕ}
 use native.Mathlib.Omega.{arith}
 use lib.Dec.{T}
-use Rattle.machine.specs.{Places.{nameNumber, cell}, Records.isSeeking}
+use Rattle.machine.specs.Records.{isSeeking}
 use Rattle.demands.specs.Memory.{Memory, stateOf}
 use Rattle.demands.specs.Calls.{Outcome, eventOf, nameAt, standing, freed, toldOf, nextState, call}
 use Rattle.demands.specs.Answers.{toldSaid, Tells}

@@ -6,7 +6,7 @@ use Prim.Native.Nat.{ℕ, _+_, _-_, _*_, _≤_, _<_, zero-le}
 use native.Mathlib.{Nat.le-trans, Omega.arith}
 use lib.Dec.{T}
 use borrow.Author.Tests.{eq-eqb, ne-eqb}
-use Rattle.machine.specs.{Settings.width, Records.{isSeeking, isHolding, isOut}, Places.{block, cell}}
+use Rattle.machine.specs.{Settings.width, Records.{isSeeking, isHolding, isOut}}
 use Rattle.demands.specs.{Memory.{Memory, stateOf, outOf}, Calls.{call, setup, turn}, History.{run, turns}}
 use Rattle.machine.specs.promises.Ranges.{WithinLimits}
 use Rattle.demands.specs.promises.{Refusing.tasksOut, Demands.{SetUp, memoryAfter, used, Seeks, HoldsSome}}

@@ -9,7 +9,6 @@ use Rattle.demands.specs.{Memory.{Memory, recordOf, stateOf}, Answers.{s
 use Rattle.demands.specs.Calls.{Outcome, eventOf, standing, freed, nextState, refuseOr, verdictOf, call, setup}
 use Rattle.demands.specs.promises.{Demands.{SetUp, memoryAfter, HoldsName}, Refusing.callSays}
 use Rattle.demands.specs.promises.{OneAccess.AcceptedIn, Reached.{Reached, Relied, NamesFollow, ReachedPromises}}
-use Rattle.machine.specs.Places.{cell}
 use Rattle.machine.specs.declared.{Settings.Settings, State.{State, the-variants.{Idle, Seeking, Holding}}}
 use Rattle.machine.specs.declared.{Kind.{Kind, the-variants.{Ask, Turn, Release}}, Event.Event, Verdict.Verdict}
 use Rattle.machine.specs.declared.Told.{Told, the-variants.{Holds, Freed}}

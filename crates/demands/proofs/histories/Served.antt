@@ -18,11 +18,11 @@ use Rattle.machine.specs.declared.{Kind.{Kind, the-variants.{Ask, Turn, Release
 use Rattle.demands.proofs.calls.Fresh.{setup-within, fresh-idle}
 use Rattle.demands.proofs.calls.Outcomes.{Called, taken, refused, accepted-answer, called, may-accepted}
 use Rattle.demands.proofs.calls.After.{caller-record, others-record, caller-after}
-use Rattle.demands.proofs.{calls.Spending.{Spending, spent-as, turned-out}, bridge.Spending.spending}
+use Rattle.demands.proofs.{calls.Spending.{spent-as, turned-out}, bridge.Spending.spending}
 use Rattle.demands.proofs.bridge.Histories.{InOrder, in-order-kept, fresh-in-order, always-in-order, run-append}
 use Rattle.demands.proofs.{bridge.Histories.history-append, histories.Seekers.seeker-may, refusals.Passed.Fit}
 use Rattle.demands.proofs.refusals.Refusing.{ruled}
-use Rattle.machine.proofs.refusals.Within.{turns-line}
+use Rattle.machine.proofs.refusals.RecordLines.{turns-line}
 
 -- ---- records and stands
 

@@ -2,7 +2,7 @@
 use mathlib.Core.{Path.{_≡_, refl, ap, subst, _∙_}, Logic.{inl, inr}, List.{List, [], _∷_}}
 use Prim.Native.Nat.{ℕ, _≤_, _<_}
 use native.Mathlib.{Decide.ℕ-discrete, Omega.arith}
-use lib.{Dec.T, ListN.length}
+use lib.Dec.{T}
 use Rattle.machine.specs.Records.{idle}
 use Rattle.demands.specs.{Memory.{Memory, recordOf, stateOf}, Calls.{call, setup}}
 use Rattle.demands.specs.History.{Answered, history, run}

@@ -2,7 +2,7 @@
 -- last accepted answer says. Every accepted call could break it: its answer is read off the record that it leaves.
 use mathlib.Core.{Path.{_≡_, refl, sym, ap}, Bool.{Bool, true, false, not, cond, _&&_, true≢false, false≢true}}
 use mathlib.Core.List.{List, [], _∷_}
-use Prim.Native.Nat.{ℕ, _+_, _<_}
+use Prim.Native.Nat.{ℕ, _<_}
 use native.Mathlib.Omega.{arith}
 use lib.Dec.{eqb}
 use borrow.Author.Tests.{eqb-true, eqb-false, ne-eqb}

@@ -15,7 +15,7 @@ use Rattle.machine.specs.declared.Kind.{Kind, the-variants.{Ask, Turn, Release}
 use Rattle.machine.specs.declared.Row.{Row, the-variants.{Records, Xs, Marks}}
 use Rattle.machine.specs.declared.Refusal.the-variants.{TaskIdle, TaskSeeks, TaskHolds}
 use Rattle.grid.specs.Triangle.{half}
-use Rattle.machine.proofs.refusals.Within.{state-line, turns-line, idle-tested, out-same}
+use Rattle.machine.proofs.refusals.RecordLines.{state-line, turns-line, idle-tested, out-same}
 use Rattle.counting.proofs.Tested.{Tested, below, most, same, both, either, fails, meaning, always, never, misses}
 use Rattle.counting.proofs.{Searching.count-same, Some.some-counted}
 

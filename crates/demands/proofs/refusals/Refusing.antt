@@ -21,7 +21,7 @@ use Rattle.machine.specs.declared.{Row.the-variants.{Records, Xs, Marks}, View.
 use Rattle.machine.specs.declared.Refusal.the-variants.{BusyRow, NoSuchTask, OneTime, TooManyOut}
 use Rattle.machine.specs.declared.Told.{Told, the-variants.{Done, Seeks, Holds, Freed, Refused}}
 use Rattle.machine.specs.declared.{Shown.the-variants.Nothing, Answer.Answer}
-use Rattle.machine.proofs.refusals.{Limits.limits-tested, Within.busy-how, Numbered.refusal-says}
+use Rattle.machine.proofs.refusals.{Limits.limits-tested, RecordLines.busy-how, Numbered.refusal-says}
 use Rattle.demands.proofs.refusals.Lines.{short-line, release-line, idle-line, seeking-line, holding-line}
 use Rattle.demands.proofs.refusals.Lines.{out-tested, out-line, momentCases, moment-as-three}
 use Rattle.demands.proofs.refusals.BadValue.{found-line, first-found}

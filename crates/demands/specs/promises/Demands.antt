@@ -2,7 +2,7 @@
 -- nothing else touches." The calls are any list of asks, turns and releases, of any task numbers, the refused ones
 -- included.
 use mathlib.Core.{Path._≡_, Logic._⊎_, Bool.{Bool, true, cond, _&&_}, List.{List, [], _∷_, _++_}}
-use Prim.Native.Nat.{ℕ, _+_, _-_, _*_, _/_, _≤_, _<_}
+use Prim.Native.Nat.{ℕ, _+_, _*_, _/_, _≤_, _<_}
 use lib.Dec.{T, eqb}
 use Rattle.machine.specs.{Settings.bound, Places.placeName, Records.{isSeeking, isHolding}}
 use Rattle.demands.specs.{Memory.{Memory, stateOf, turnsIn, largest}, Answers.{said, Tells, isAccepted, plain}}
