@@ -5,7 +5,8 @@
   definitions at its head and the lemma that two outcomes are equal: two premises of the lemma have the same definitions at their heads;
 - no public function of an entry crate (calls, schedule, listing) has a `requires`;
 - every must-fail edit that is named exists, and every edit is named in docs/CONTRACTS.md or docs/MUST_FAIL.md;
-- docs/WALKS.md has a row for every function that is walked by hand, with the length of its proof.
+- docs/WALKS.md has a row for every function that is walked by hand, with the length of its proof;
+- every name on docs/CLAIM.md, of a file, a function, a statement or an edit, is in the crates.
 Last line: 'N passed, M failed'."""
 import glob
 import os
@@ -155,6 +156,25 @@ def walks(check):
             check(table[name] == str(length[name]), f'docs/WALKS.md: the proof of {name} has {length[name]} lines, not {table[name]}')
 
 
+def claim(check):
+    text = re.sub(r'(?m)^    .*$', '', read('docs', 'CLAIM.md'))
+    sources = [path for kind in ('antt', 'rt') for path in glob.glob(os.path.join(CRATES, '**', '*.' + kind), recursive=True)]
+    declared = set()
+    for path in sources:
+        declared |= set(re.findall(r'[\w][\w-]*', read(path)))
+    for name in sorted(set(re.findall(r'`([^`\n]+)`', text))):
+        if '=' in name or name.startswith('rt '):
+            continue
+        if '::' in name:
+            crate, function = name.split('::')
+            there = any(re.search(rf'\bfn {function}\b', read(path)) for path in sources if path.startswith(os.path.join(CRATES, crate, 'src')))
+        elif '/' in name:
+            there = any(os.path.exists(os.path.join(ROOT, below, name + end)) for below in ('', 'crates') for end in ('', '.antt'))
+        else:
+            there = name in declared or any(glob.glob(os.path.join(CRATES, '*', 'must-fail', name + '.edit')))
+        check(there or name in ('this type',), f'docs/CLAIM.md names {name}, which is in no crate')
+
+
 def main():
     passed, wrong = 0, []
 
@@ -167,6 +187,7 @@ def main():
 
     edits(check, contracts(check))
     walks(check)
+    claim(check)
     for line in wrong:
         print(line)
     print(f'{passed} passed, {len(wrong)} failed')

@@ -3,14 +3,14 @@
 use mathlib.Core.{Path.{_≡_, refl, sym, ap}, Bool.{Bool, true, false, cond}, List.List}
 use Prim.Native.Nat.{ℕ}
 use lib.{ListN.{getD, set}, Seq.set-getD}
-use Rattle.machine.specs.{Records.{idle, recordInRange}, Memory.{Memory, viewOf, content, put}}
-use Rattle.machine.specs.Turn.{opWrites, seen, left, access, value, store}
-use Rattle.machine.specs.{Calls.{Outcome, refuseOr, accept, call, cleared, setup, eventOf}, Lent.{lent, leaves}}
+use Rattle.machine.specs.{Records.{idle, recordInRange}, Turn.{opWrites, seen, left, access}}
+use Rattle.demands.specs.{Memory.{Memory, viewOf, content, put}, Touching.{value, store}}
+use Rattle.demands.specs.{Calls.{Outcome, refuseOr, accept, call, cleared, setup, eventOf}, Lent.{lent, leaves}}
+use Rattle.demands.specs.{Refusals.{verdict, setupVerdict}, Answers.plain}
 use Rattle.machine.specs.declared.{Settings.Settings, Record.Record}
 use Rattle.machine.specs.declared.Register.{Register, the-variants.{X, Mark}}
 use Rattle.machine.specs.declared.Access.{Access, the-variants.{NoAccess, Touch}}
 use Rattle.machine.specs.declared.{Kind.Kind, Verdict.Verdict, Told.Told}
-use Rattle.machine.specs.{Refusals.{verdict, setupVerdict}, Answers.plain}
 use Rattle.counting.proofs.Searching.{none-bad-all}
 use Rattle.rules.specs.Decision.{Sees, Decision, decisionBy, decision, preparation}
 

@@ -2,9 +2,9 @@
 -- row by row.
 use mathlib.Core.{Path._≡_, List.List}
 use Prim.Native.Nat.{ℕ}
-use Rattle.machine.specs.{Memory.Memory, Calls.{Outcome, setup, call}, Lent.{lent, leaves}}
+use Rattle.demands.specs.{Memory.Memory, Calls.{Outcome, setup, call}, Lent.{lent, leaves}}
 use Rattle.machine.specs.declared.{Settings.Settings, Event.Event}
-use Rattle.machine.proofs.calls.Lent.{leaves-determined}
+use Rattle.demands.proofs.calls.Lent.{leaves-determined}
 use Rattle.calls.specs.{Made.outcomeOf, declared.{Call.Call, Made.Made}}
 
 -- whatever outcome a contract names

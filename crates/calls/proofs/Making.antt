@@ -1,6 +1,7 @@
 -- A call by its enum is setup, or the call of its event.
 use mathlib.Core.Path.{_≡_, refl}
-use Rattle.machine.specs.{Memory.Memory, Calls.{Outcome, setup, call}, declared.{Settings.Settings, Event.Event}}
+use Rattle.demands.specs.{Memory.Memory, Calls.{Outcome, setup, call}}
+use Rattle.machine.specs.declared.{Settings.Settings, Event.Event}
 use Rattle.calls.specs.{Made.{outcomeOf, EachMade}, declared.Call.Call}
 
 pub each-made : EachMade

@@ -1,6 +1,7 @@
 -- What is called, as an outcome of the definitions. Theorem: `each-made`.
 use mathlib.Core.Path.{_≡_}
-use Rattle.machine.specs.{Memory.Memory, Calls.{Outcome, setup, call}, declared.{Settings.Settings, Event.Event}}
+use Rattle.demands.specs.{Memory.Memory, Calls.{Outcome, setup, call}}
+use Rattle.machine.specs.declared.{Settings.Settings, Event.Event}
 use Rattle.calls.specs.declared.Call.{Call}
 
 -- setup, or a call of one task

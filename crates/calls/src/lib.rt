@@ -9,11 +9,10 @@ use machine::Record;
 use machine::Settings;
 use machine::State;
 use machine::TaskId;
-ghost use Rattle.machine.specs.Calls.{call, setup, ask, turn, release};
+ghost use Rattle.demands.specs.{Calls.{call, setup, ask, turn, release}, Lent.{lent, leaves}};
 ghost use mathlib.Core.Path.{_≡_};
 ghost use lib.ListN.{replicate};
 ghost use Rattle.machine.specs.Records.{idle};
-ghost use Rattle.machine.specs.Lent.{lent, leaves};
 ghost use Rattle.calls.specs.Made.{outcomeOf};
 
 // What is called: setup, or ask, turn or release of one task.

@@ -1,6 +1,6 @@
 -- The first of two lists of cases, one after the other.
 use mathlib.Core.{Path.{_≡_, refl, sym, ap, _∙_}, Bool.{Bool, true, false, cond}, List.{List, [], _∷_, _++_}}
-use Rattle.machine.specs.Refusals.{Case, first}
+use Rattle.demands.specs.Refusals.{Case, first}
 use Rattle.machine.specs.declared.{Refusal.Refusal, Verdict.{Verdict, the-variants.{Accepted, Refused}}}
 
 -- the second list counts only where the first accepts

@@ -5,7 +5,8 @@ use Prim.Native.Nat.{ℕ, zero, suc, _+_, _≤_, _<_}
 use native.Mathlib.{Nat.add-zero, Numerals.add-one, Omega.arith}
 use lib.{Dec.{T, ltb}, ListN.{length, getD, drop, drop-of-length-le}, Seq.drop-cons}
 use borrow.Author.Tests.{ltb-false}
-use Rattle.machine.specs.{Refusals.first, declared.Verdict.the-variants.Accepted}
+use Rattle.demands.specs.Refusals.{first}
+use Rattle.machine.specs.declared.Verdict.the-variants.{Accepted}
 use Rattle.counting.{specs.Counting.anyBelow, proofs.Some.{none-below, each-none}}
 use Rattle.file.specs.File.{eventNumber, readingSaid, fileLength, byteAt, settingsOf, countOf, codeAt, eventAt}
 use Rattle.file.specs.File.{codeBad, headerCases, Read, headerBytes, codeIn, eventBytes, eventsBytes, fileBytes}

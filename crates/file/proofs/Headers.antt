@@ -3,11 +3,12 @@ use mathlib.Core.{Path.{_≡_, refl, sym, ap, _∙_}, Bool.{true, false}, List.{
 use Prim.Native.Nat.{ℕ, _+_, _≤_, _<_}
 use lib.{Dec.eqb, ListN.length}
 use borrow.Author.Tests.{ltb-false, eqb-true, not-false, le-ltb, le-leb, lt-leb, eq-eqb}
-use Rattle.machine.specs.{Settings.{knownVersion, permitted}, Refusals.first}
+use Rattle.machine.specs.Settings.{knownVersion, permitted}
+use Rattle.demands.specs.Refusals.{first}
+use Rattle.demands.proofs.refusals.Deciding.{no-case}
 use Rattle.machine.specs.declared.{Settings.Settings, Refusal.{Refusal, the-variants.NoEvent}}
 use Rattle.machine.specs.declared.{Verdict.{Verdict, the-variants.{Accepted, Refused}}, Opening.Opening}
 use Rattle.machine.specs.declared.Reading.{Reading}
-use Rattle.machine.proofs.refusals.Deciding.{no-case}
 use Rattle.counting.specs.Counting.{anyBelow}
 use Rattle.file.specs.File.{mostEvents, fileLength, lettersRight, versionOf, settingsOf, countOf, codeBad}
 use Rattle.file.specs.File.{eventAt, headerCases, openVerdict, openingBy, opening, Read, readBy, reading}

@@ -3,10 +3,12 @@ use mathlib.Core.{Path.{_≡_, refl, ap, _∙_}, Logic.{inl, inr}, List.{List, [
 use Prim.Native.Nat.{ℕ, zero, suc, _+_, _*_, _/_, _≤_, _<_}
 use native.Mathlib.{Nat.not-suc-le-zero, Omega.arith}
 use lib.{ListN.{length, getD, drop, replicate}, Seq.drop-at}
-use Rattle.machine.specs.{Refusals.Case, Answers.Said, promises.Refusing.{Line, RefusedExactly}, Calls.eventOf}
+use Rattle.demands.specs.{Refusals.Case, Calls.eventOf}
+use Rattle.machine.specs.RefusalNumbers.{Said}
+use Rattle.demands.specs.promises.Refusing.{Line, RefusedExactly}
+use Rattle.demands.proofs.refusals.Deciding.{Are, refused-exactly, accepted-verdict, refusal-keeps}
 use Rattle.machine.specs.declared.{Settings.Settings, Verdict.{Verdict, the-variants.Accepted}, Reading.Reading}
 use Rattle.machine.proofs.refusals.Limits.{limits-tested}
-use Rattle.machine.proofs.refusals.Deciding.{Are, refused-exactly, accepted-verdict, refusal-keeps}
 use Rattle.counting.proofs.{Tested.{Tested, below, most, same, both, either, fails, meaning}, Some.some-below}
 use Rattle.file.specs.File.{lettersRight, versionOf, settingsOf, countOf, codeAt, taskAt, eventAt, codeBad}
 use Rattle.file.specs.File.{headerCases, codeCases, openVerdict, openingBy, kindOf, eventCases, eventVerdict}

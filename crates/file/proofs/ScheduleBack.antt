@@ -4,11 +4,13 @@ use Prim.Native.Nat.{ℕ, zero, suc, _+_, _*_, _%_, _/_, _≤_, _<_}
 use native.Mathlib.{Nat.add-zero, Omega.arith}
 use lib.{Dec.{T, ltb}, ListN.{length, getD, take, drop, List·getD-append}, Seq.{getD-append-add, take-at, ext-getD}}
 use borrow.Author.Tests.{ltb-false, le-ltb, not-false}
-use Rattle.machine.specs.{Settings.{knownVersion, permitted}, Refusals.first, Answers.{Said, Tells}}
+use Rattle.machine.specs.{Settings.{knownVersion, permitted}, RefusalNumbers.Said}
+use Rattle.demands.specs.{Refusals.first, Answers.Tells}
+use Rattle.machine.proofs.refusals.Limits.{limits}
+use Rattle.demands.proofs.refusals.Deciding.{no-case}
 use Rattle.machine.specs.promises.Ranges.{WithinLimits}
 use Rattle.machine.specs.declared.{Settings.Settings, Verdict.{Verdict, the-variants.Accepted}, Opening.Opening}
 use Rattle.machine.specs.declared.Reading.{Reading}
-use Rattle.machine.proofs.refusals.{Limits.limits, Deciding.no-case}
 use Rattle.counting.{specs.Counting.anyBelow, proofs.Some.{none-below, each-none}}
 use Rattle.file.specs.File.{mostEvents, writeCases, eventNumber, readingSaid, writingSaid, fileLength, settingsOf}
 use Rattle.file.specs.File.{countOf, codeAt, eventAt, codeBad, headerCases, opening, Read, reading, headerBytes}

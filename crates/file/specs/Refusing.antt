@@ -5,8 +5,10 @@
 use mathlib.Core.{Path._≡_, Logic._⊎_, List.{List, [], _∷_}}
 use Prim.Native.Nat.{ℕ, _+_, _*_, _/_, _≤_, _<_}
 use lib.ListN.{length, getD, drop, replicate}
-use Rattle.machine.specs.promises.{Ranges.WithinLimits, Refusing.{Line, line, RefusedExactly}}
-use Rattle.machine.specs.{Calls.{ask, turn, release}, declared.{Settings.Settings, Opening.Opening, Reading.Reading}}
+use Rattle.machine.specs.promises.Ranges.{WithinLimits}
+use Rattle.demands.specs.promises.Refusing.{Line, line, RefusedExactly}
+use Rattle.demands.specs.Calls.{ask, turn, release}
+use Rattle.machine.specs.declared.{Settings.Settings, Opening.Opening, Reading.Reading}
 use Rattle.file.specs.File.{opening, reading, writing, openingSaid, readingSaid, writingSaid}
 
 -- ---- what the bytes say

@@ -4,7 +4,8 @@
 use mathlib.Core.{Path._≡_, List.{List, [], _∷_, _++_}}
 use Prim.Native.Nat.{ℕ, zero, suc, _+_, _≤_, _<_}
 use lib.ListN.{length, getD, take, drop}
-use Rattle.machine.specs.{Answers.Tells, declared.{Settings.Settings, Opening.Opening, Writing.Writing}}
+use Rattle.demands.specs.Answers.{Tells}
+use Rattle.machine.specs.declared.{Settings.Settings, Opening.Opening, Writing.Writing}
 use Rattle.file.specs.File.{opening, reading, Written, writing, openingSaid, readingSaid, writingSaid}
 
 -- the numbers of the events that a reader at a position gives when it is asked so many times

@@ -7,7 +7,7 @@ ghost use mathlib.Core.Path.{_≡_};
 ghost use mathlib.Core.List.{[]};
 ghost use Prim.Native.Nat.{_+_, _≤_};
 ghost use lib.ListN.{length};
-ghost use Rattle.machine.specs.Refusals.{first};
+ghost use Rattle.demands.specs.Refusals.{first};
 ghost use Rattle.file.specs.File.{wordAt, lettersRight, settingsOf, headerCases};
 
 // The most events that a schedule has.

@@ -9,7 +9,7 @@ use Rattle.file.specs.File.{opening, Written, writtenOf}
 use Rattle.printed.specs.{Listing.{listingBy, listing}, Listed.{roomBy, roomFor, listVerdict, listedBy, listed}}
 use Rattle.machine.specs.declared.{Opening.Opening, Refusal.the-variants.ShortRoom}
 use Rattle.machine.specs.declared.{Writing.{Writing, the-variants.{Wrote, Refused}}, Verdict.Verdict}
-use Rattle.machine.specs.Refusals.{when, first}
+use Rattle.demands.specs.Refusals.{when, first}
 use Rattle.text.specs.Put.{put, Puts}
 use Rattle.listing.proofs.Opened.{events-few}
 

@@ -3,8 +3,9 @@ use mathlib.Core.{Path.{_≡_, refl, sym, ap, _∙_}, List.{List, _++_}}
 use Prim.Native.Nat.{ℕ, _+_, _*_, _≤_, max}
 use native.Mathlib.{Numerals.add-one, Omega.arith}
 use lib.ListN.{length, replicate}
-use Rattle.machine.specs.{Records.idle, Memory.{Memory, turnsIn, outOf, largest}, Calls.{Outcome, call, setup}}
-use Rattle.machine.specs.{declared.{Settings.Settings, Event.Event}, Lent.lent}
+use Rattle.machine.specs.Records.{idle}
+use Rattle.demands.specs.{Memory.{Memory, turnsIn, outOf, largest}, Calls.{Outcome, call, setup}, Lent.lent}
+use Rattle.machine.specs.declared.{Settings.Settings, Event.Event}
 use Rattle.file.specs.File.{eventAt}
 use Rattle.printed.specs.Listing.{Progress, gridLine, eventLine, endLine, completed, holdersOf, advanceBy}
 use Rattle.printed.specs.Listing.{advance, progress, ended}

@@ -2,7 +2,8 @@
 use mathlib.Core.{Path._≡_, List.{List, []}}
 use Prim.Native.Nat.{ℕ}
 use Rattle.printed.specs.Listing.{Progress, gridLine, advanceBy}
-use Rattle.machine.specs.{declared.{Settings.Settings, Event.Event}, Memory.Memory}
+use Rattle.machine.specs.declared.{Settings.Settings, Event.Event}
+use Rattle.demands.specs.Memory.{Memory}
 use Rattle.calls.specs.{Made.outcomeOf, declared.Call.Call}
 use Rattle.report.specs.Writes.{Writes}
 use Rattle.listing.specs.declared.Standing.{Standing}

@@ -1,11 +1,10 @@
--- The memory seen as the grid of the crate `grid`: a call is a step of it, and its invariants hold after every history.
+-- The settings and a record as the crate `grid` sees them: numbers, rules, which register a turn touches, and where a
+-- task comes to.
 pub mod Numbering
 pub mod Numbers
 pub mod Turning
 pub mod Arriving
 pub mod Outs
-pub mod AsGrid
-pub mod Steps
-pub mod Spending
-pub mod Histories
-pub mod Names
+pub mod Accesses
+pub mod Turns
+pub mod AsRules

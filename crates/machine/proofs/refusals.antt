@@ -1,9 +1,5 @@
--- Demand 1: the limits and ranges, the table of refusals, and what it says that the tests passed.
+-- Demand 1: the limits of the settings, the ranges of a record, and the numbers of the refusals.
 pub mod Limits
 pub mod Ranges
-pub mod Deciding
-pub mod Lines
-pub mod BadValue
-pub mod Refusing
-pub mod Passed
-pub mod Passing
+pub mod RecordLines
+pub mod Numbered

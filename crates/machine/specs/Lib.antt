@@ -1,14 +1,9 @@
--- The definitions, in the order of document 01. What a reader must believe.
+-- The definitions of settings, places, records and refusals, in the order of document 01. What a reader must believe.
 pub mod Settings
 pub mod Places
 pub mod Records
-pub mod Memory
 pub mod Grid
 pub mod Turn
-pub mod Refusals
-pub mod Answers
-pub mod Calls
-pub mod History
-pub mod Lent
+pub mod RefusalNumbers
 -- What is promised of them.
 pub mod promises

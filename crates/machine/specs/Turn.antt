@@ -1,12 +1,10 @@
 -- A call looks at the task's record alone to learn which register it touches, makes that one access, and hands the
--- value read to the record: `next` sees no memory, and `store` changes one element at the most. What is touched and
--- what comes next on a grid is in `Grid`.
-use mathlib.Core.Bool.{Bool, true, false, cond}
+-- value read to the record: `next` sees no memory. What is touched and what comes next on a grid is in `Grid`.
+use mathlib.Core.Bool.{Bool, true, false}
 use Prim.Native.Nat.{ℕ, _+_}
-use Rattle.machine.specs.{Memory.{Memory, content, put}, Grid.{pointAccess, cellAccess, arrive, pointTurned}}
+use Rattle.machine.specs.Grid.{pointAccess, cellAccess, arrive, pointTurned}
 use Rattle.machine.specs.declared.{Settings.Settings, Record.Record}
-use Rattle.machine.specs.declared.State.{State, the-variants.{Idle, Seeking, Holding}}
-use Rattle.machine.specs.declared.{Stand.Stand, Place.Place}
+use Rattle.machine.specs.declared.{State.{State, the-variants.{Idle, Seeking, Holding}}, Stand.Stand, Place.Place}
 use Rattle.machine.specs.declared.{Register.Register, Op.{Op, the-variants.{Read, Write}}}
 use Rattle.machine.specs.declared.{Access.{Access, the-variants.{NoAccess, Touch}}, Letter.the-variants.{R, W}}
 use Rattle.machine.specs.declared.Shown.{Shown, the-variants.{Nothing, Touched}}
@@ -57,16 +55,6 @@ seen (Write v) old = 0
 abbrev pub left : Op → ℕ → ℕ
 left Read old = old
 left (Write v) old = v
-
--- what an access sees; 0 where nothing is read
-abbrev pub value : Settings → Access → Memory → ℕ
-value s NoAccess m = 0
-value s (Touch register op) m = seen op (content s register m)
-
--- the one register written, or none
-abbrev pub store : Settings → Access → Memory → Memory
-store s NoAccess m = m
-store s (Touch register op) m = cond (opWrites op) (put s register (left op (content s register m)) m) m
 
 -- what an answer shows of an access that saw v: the value read, or the value written
 abbrev pub opShown : Op → Register → ℕ → Shown

@@ -1,14 +1,3 @@
--- The promises, each in terms of document 01 or of the user's demands.
+-- The promises, each in terms of document 01.
 pub mod Numbers
 pub mod Ranges
-pub mod Refusing
-pub mod SettingUp
-pub mod Rules
-pub mod OneAccess
-pub mod Surplus
-pub mod Telling
-pub mod Demands
-pub mod Setups
-pub mod Light
-pub mod Reached
-pub mod Notes

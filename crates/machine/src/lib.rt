@@ -4,7 +4,7 @@
 ghost use mathlib.Core.Path.{_≡_};
 ghost use Prim.Native.Nat.{_+_, _≤_, _<_};
 ghost use lib.Dec.{T};
-ghost use Rattle.machine.specs.Answers.{numberOf};
+ghost use Rattle.machine.specs.RefusalNumbers.{numberOf};
 ghost use Rattle.machine.specs.{Settings.{width, bound}, Places.block};
 ghost use Rattle.machine.specs.Records.{pointInRange, standInRange, recordInRange};
 ghost use Rattle.machine.specs.{Grid.{arrive, move, leave, pointTurned}, Turn.{standTurned, nextRecord}};

@@ -5,7 +5,8 @@ use native.Mathlib.Omega.{arith}
 use lib.{ListN.{length, take, drop, take-append-drop}, Seq.length-take-le}
 use mir.Syntax.{w8}
 use denote.Slice.{Room}
-use Rattle.machine.specs.{Calls.Outcome, declared.Record.Record}
+use Rattle.demands.specs.Calls.{Outcome}
+use Rattle.machine.specs.declared.Record.{Record}
 use Rattle.walks.proofs.Data.{Real, number}
 use Rattle.rows.proofs.Functions.{R}
 use Rattle.calls.{specs.declared.Made.Made, proofs.Functions.records-data}

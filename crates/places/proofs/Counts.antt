@@ -3,9 +3,12 @@ use mathlib.Core.Path.{_≡_}
 use Prim.Native.Nat.{ℕ, _+_, _*_, _≤_, _<_}
 use native.Mathlib.{Omega.arith, Nat.mul-le-mul}
 use mir.{Syntax.{w16, w64}, Val.Fits}
-use Rattle.machine.specs.{Settings.width, Places.blocks, Memory.{marksNeeded, markIndex}, declared.Settings.Settings}
+use Rattle.machine.specs.{Settings.width, Places.blocks}
+use Rattle.demands.specs.Memory.{marksNeeded, markIndex}
+use Rattle.machine.specs.declared.Settings.{Settings}
+use Rattle.machine.proofs.refusals.Limits.{width-most}
+use Rattle.demands.proofs.calls.Cells.{earlier-block}
 use Rattle.machine.specs.promises.Ranges.{WithinLimits}
-use Rattle.machine.proofs.{refusals.Limits.width-most, calls.Cells.earlier-block}
 use Rattle.grid.{specs.Triangle.{half, placeNumber, diagonalNumber}, proofs.Triangle.{half-most, diagonals}}
 
 -- products of the grid's numbers fit, also with one more such number added

@@ -11,8 +11,8 @@ ghost use lib.Dec.{T};
 ghost use Rattle.machine.specs.Settings.{knownVersion, permitted, width, own};
 ghost use Rattle.grid.specs.Triangle.{half, placeNumber, diagonalNumber};
 ghost use Rattle.machine.specs.Places.{blocks, blockNumber, names};
-ghost use Rattle.machine.specs.Memory.{marksNeeded, markIndex};
-ghost use Rattle.machine.specs.{Records.placeInRange, Calls.nameAt};
+ghost use Rattle.demands.specs.{Memory.{marksNeeded, markIndex}, Calls.nameAt};
+ghost use Rattle.machine.specs.Records.{placeInRange};
 
 // Whether there is such a version.
 pub fn known_version(version: u16) -> bool

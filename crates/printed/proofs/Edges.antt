@@ -7,15 +7,17 @@ use lib.Dec.{T, eqb}
 use borrow.Author.Tests.{le-leb, lt-leb}
 use Rattle.grid.specs.Triangle.{half, placeNumber, diagonalNumber}
 use Rattle.counting.{specs.Counting.{count, firstBad}, proofs.Tested.misses}
-use Rattle.machine.specs.{Memory.Memory, Grid.arrive, Answers.{toldAccepted, isAccepted, plain}}
-use Rattle.machine.specs.Calls.{call, setup, verdictOf, standing, ask, release}
-use Rattle.machine.specs.promises.{Ranges.WithinLimits, Demands.SetUp}
+use Rattle.demands.specs.{Memory.Memory, Answers.{toldAccepted, isAccepted, plain}}
+use Rattle.demands.specs.Calls.{call, setup, verdictOf, standing, ask, release}
+use Rattle.machine.specs.Grid.{arrive}
+use Rattle.machine.specs.promises.Ranges.{WithinLimits}
+use Rattle.demands.specs.promises.Demands.{SetUp}
+use Rattle.machine.proofs.refusals.Limits.{zero-or-one, limits-tested, mode-most}
+use Rattle.demands.proofs.refusals.{Passing.fits, Refusing.within, Passed.{Fit, fit-verdict}}
+use Rattle.demands.proofs.histories.Exact.{setup-takes-largest}
+use Rattle.demands.proofs.calls.Fresh.{setup-within, fresh-idle, fresh-none-out, fresh-fit}
 use Rattle.machine.specs.declared.{Settings.Settings, State.{State, the-variants.{Idle, Seeking, Holding}}}
 use Rattle.machine.specs.declared.{Verdict.Verdict, Row.the-variants.{Records, Xs, Marks}}
-use Rattle.machine.proofs.refusals.{Limits.{zero-or-one, limits-tested, mode-most}, Passing.fits, Refusing.within}
-use Rattle.machine.proofs.refusals.Passed.{Fit, fit-verdict}
-use Rattle.machine.proofs.histories.Exact.{setup-takes-largest}
-use Rattle.machine.proofs.calls.Fresh.{setup-within, fresh-idle, fresh-none-out, fresh-fit}
 use Rattle.text.specs.Decimal.{decimal}
 use Rattle.printed.specs.Edges.{FiveNames, FiveByDiagonal, NoTurns, LoneTask, TheOtherTask, TheListing}
 use Rattle.printed.specs.Edges.{TwoAsks, OneTimeMark, SetupAgain, TwoOut, LastIdentifier, NoRelease}

@@ -7,20 +7,20 @@ use Prim.Native.Nat.{ℕ, zero, suc, _≤_, _<_, max, zero-le}
 use native.Mathlib.{Nat.{le-refl, max-zero}, Omega.arith}
 use lib.{Dec.{T, eqb, ltb, eqb→eq}, ListN.{getD, replicate}}
 use borrow.Author.Tests.{lt-ltb, le-ltb}
-use Rattle.machine.specs.{Records.{idle, isHolding, isOut}, Memory.{Memory, stateOf, turnsIn, outOf, largest}}
-use Rattle.machine.specs.Answers.{isAccepted}
-use Rattle.machine.specs.{Calls.{Outcome, nameAt, toldOf, call, setup}, History.{Answered, counted, turnsOf}}
-use Rattle.machine.specs.{Settings.bound, promises.Refusing.tasksOut}
-use Rattle.machine.specs.promises.{Demands.{memoryAfter, historyOf, used, HoldsSome}, OneAccess.AcceptedIn}
+use Rattle.machine.specs.{Records.{idle, isHolding, isOut}, Settings.bound}
+use Rattle.demands.specs.{Memory.{Memory, stateOf, turnsIn, outOf, largest}, Answers.isAccepted}
+use Rattle.demands.specs.{Calls.{Outcome, nameAt, toldOf, call, setup}, History.{Answered, counted, turnsOf}}
+use Rattle.demands.specs.promises.{Refusing.tasksOut, Demands.{memoryAfter, historyOf, used, HoldsSome}}
+use Rattle.demands.specs.promises.OneAccess.{AcceptedIn}
+use Rattle.demands.proofs.{refusals.{Lines.tasks-out, Passing.{passed, by-the-rules}}, calls.SettingUp.setup-clears}
+use Rattle.demands.proofs.calls.Effects.{only-the-register-written-changes}
+use Rattle.demands.proofs.bridge.Histories.{run-keeps, run-append, history-append, call-few}
+use Rattle.demands.proofs.histories.{Served.turns-append, Demand3.{served-within, each-turns-told, setup-takes}}
 use Rattle.machine.specs.Places.{cell}
 use Rattle.machine.specs.declared.{Settings.Settings, Name.Name, State.{State, the-variants.{Idle, Seeking, Holding}}}
 use Rattle.machine.specs.declared.{Kind.{Kind, the-variants.{Ask, Turn, Release}}, Event.Event, Told.Told}
 use Rattle.machine.specs.declared.Answer.{Answer}
 use Rattle.machine.specs.declared.{Record.Record, Opening.Opening}
-use Rattle.machine.proofs.refusals.{Lines.tasks-out, Passing.{passed, by-the-rules}}
-use Rattle.machine.proofs.calls.{SettingUp.setup-clears, Effects.only-the-register-written-changes}
-use Rattle.machine.proofs.bridge.Histories.{run-keeps, run-append, history-append, call-few}
-use Rattle.machine.proofs.histories.{Served.turns-append, Demand3.{served-within, each-turns-told, setup-takes}}
 use Rattle.counting.specs.Counting.{tick, count, anyBelow}
 use Rattle.counting.proofs.{Lists.one-value, Searching.{count-same, count-none}}
 use Rattle.file.specs.File.{codeAt, taskAt, eventAt}
@@ -29,7 +29,7 @@ use Rattle.printed.specs.EndLine.{eventsOf, memoryAt, holdersAt, outAt, 
 use Rattle.printed.specs.EndLine.{turnsAt, linesOf, Attained, NoneCounts, Greatest, EndLineCounted, EndCountsOne}
 use Rattle.printed.specs.EndLine.{UsedCounted, MostWithinBound, PeakWithin}
 use Rattle.printed.proofs.Greatest.{none-yet, one-skipped, one-counted, greatest-one}
-use Rattle.machine.specs.Calls as calls
+use Rattle.demands.specs.Calls as calls
 
 -- ---- counted since
 

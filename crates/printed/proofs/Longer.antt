@@ -5,7 +5,8 @@ use Prim.Native.Nat.{ℕ, _≤_, _<_}
 use native.Mathlib.Omega.{arith}
 use lib.{Dec.{eqb, ltb}, ListN.{length, take}, Seq.{getD-take, length-take-le, take-all}}
 use borrow.Author.{Needs.needs, Tests.{le-ltb, ltb-true, ltb-false, ne-eqb}}
-use Rattle.machine.specs.{Settings.knownVersion, Refusals.{Case, when, first, outsideLimits}, Answers.numberOf}
+use Rattle.machine.specs.{Settings.knownVersion, RefusalNumbers.numberOf}
+use Rattle.demands.specs.Refusals.{Case, when, first, outsideLimits}
 use Rattle.machine.specs.declared.Refusal.{Refusal}
 use Rattle.machine.specs.declared.Refusal.the-variants.{Limits, FileLength, Letters, Version, TooManyEvents, EventCode}
 use Rattle.machine.specs.declared.Verdict.{Verdict, the-variants.Refused}

@@ -6,20 +6,21 @@ use Prim.Native.Nat.{ℕ, suc, _+_, _≤_, _<_}
 use native.Mathlib.Omega.{arith}
 use lib.{Dec.{T, eqb}, ListN.{getD, set}}
 use Rattle.machine.specs.{Settings.{width, own}, Places.{blockNumber, nameNumber}, Records.isOut}
-use Rattle.machine.specs.Memory.{Memory, markIndex, stateOf, outOf}
-use Rattle.machine.specs.{Calls.{Outcome, eventOf, toldOf, nextState, accept, setup}, History.history}
-use Rattle.machine.specs.promises.{Demands.SetUp, Ranges.WithinLimits}
+use Rattle.demands.specs.Memory.{Memory, markIndex, stateOf, outOf}
+use Rattle.demands.specs.{Calls.{Outcome, eventOf, toldOf, nextState, accept, setup}, History.history}
+use Rattle.demands.specs.promises.Demands.{SetUp}
+use Rattle.machine.specs.promises.Ranges.{WithinLimits}
+use Rattle.demands.proofs.calls.Fresh.{setup-within, fresh-idle, fresh-none-out}
+use Rattle.demands.proofs.bridge.AsGrid.{x-on-block, mark-on-block, x-put, mark-put}
+use Rattle.demands.proofs.bridge.Histories.{fresh-in-order, fresh-unmarked}
+use Rattle.demands.proofs.histories.Laps.{Took, turn-took, ask-took}
 use Rattle.machine.specs.declared.{Settings.Settings, Direction.the-variants.Right}
 use Rattle.machine.specs.declared.Point.the-variants.{WriteX, Scan, WriteMark, ReadX}
 use Rattle.machine.specs.Places.{block, cell}
 use Rattle.machine.specs.declared.State.{State, the-variants.{Idle, Seeking, Holding}}
 use Rattle.machine.specs.declared.{Kind.{Kind, the-variants.{Ask, Turn}}, Event.Event, Told.Told}
-use Rattle.machine.proofs.calls.Fresh.{setup-within, fresh-idle, fresh-none-out}
 use Rattle.machine.proofs.bridge.Turning.{scan-marked, scan-done, reads-own}
 use Rattle.machine.proofs.bridge.Arriving.{arrive-edge, arrive-block, leave-at-once}
-use Rattle.machine.proofs.bridge.AsGrid.{x-on-block, mark-on-block, x-put, mark-put}
-use Rattle.machine.proofs.bridge.Histories.{fresh-in-order, fresh-unmarked}
-use Rattle.machine.proofs.histories.Laps.{Took, turn-took, ask-took}
 use Rattle.grid.specs.Triangle.{half, placeNumber, diagonalNumber}
 use Rattle.printed.specs.Edges.{toldIn, acquires, servedAt, OneTimePair}
 use Rattle.counting.proofs.Counting.{count-but-one}

@@ -3,10 +3,13 @@ use mathlib.Core.{Path.{_≡_, refl, sym, ap, _∙_}, Logic.{inl, inr, ⊎-elim,
 use Prim.Native.Nat.{ℕ, _<_}
 use native.Mathlib.Omega.{arith}
 use lib.{Dec.ltb, ListN.length}
-use Rattle.machine.specs.{Refusals.when, Answers.{Said, numberOf}, promises.Refusing.NoneHolds}
+use Rattle.demands.specs.Refusals.{when}
+use Rattle.machine.specs.RefusalNumbers.{Said, numberOf}
+use Rattle.demands.specs.promises.Refusing.{NoneHolds}
+use Rattle.machine.proofs.refusals.Numbered.{refusal-says}
+use Rattle.demands.proofs.refusals.Deciding.{Are, refused-exactly, accepted-verdict, refusal-keeps}
 use Rattle.machine.specs.declared.{Opening.Opening, Refusal.the-variants.ShortRoom}
 use Rattle.machine.specs.declared.Verdict.{Verdict, the-variants.Accepted}
-use Rattle.machine.proofs.refusals.Deciding.{refusal-says, Are, refused-exactly, accepted-verdict, refusal-keeps}
 use Rattle.counting.proofs.Tested.{below, meaning}
 use Rattle.file.specs.{File.{opening, openingSaid, writingSaid}, Refusing.{inHeader, sixteen, openLines}}
 use Rattle.file.proofs.Refusing.{each-opening}

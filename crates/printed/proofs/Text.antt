@@ -3,7 +3,7 @@ use mathlib.Core.List.{List, [], _∷_, _++_, append-assoc}
 use Prim.Native.Nat.{ℕ, _≤_}
 use native.Mathlib.Omega.{arith}
 use Rattle.text.{specs.Decimal.decimal, proofs.Plain.decimal-plain}
-use Rattle.machine.specs.Answers.{numberOf}
+use Rattle.machine.specs.RefusalNumbers.{numberOf}
 use Rattle.machine.specs.declared.{Kind.{Kind, the-variants.{Ask, Turn, Release}}, Event.Event, Told.Told}
 use Rattle.machine.specs.declared.Answer.{Answer}
 use Rattle.machine.specs.declared.{Register.{Register, the-variants.{X, Mark}}, Letter.{Letter, the-variants.{R, W}}}

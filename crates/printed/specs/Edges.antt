@@ -6,11 +6,12 @@
 use mathlib.Core.{Path._≡_, Logic._⊎_, List.{List, [], _∷_, _++_, map}}
 use Prim.Native.Nat.{ℕ, _+_, _≤_, _<_}
 use lib.Dec.{T}
-use Rattle.machine.specs.{Places.nameNumber, Memory.{Memory, largest}, Answers.{said, isAccepted, plain}}
-use Rattle.machine.specs.{Calls.{call, setup, ask, turn, release}, History.{Answered, turns}}
+use Rattle.machine.specs.Places.{nameNumber}
+use Rattle.demands.specs.{Memory.{Memory, largest}, Answers.{said, isAccepted, plain}}
+use Rattle.demands.specs.{Calls.{call, setup, ask, turn, release}, History.{Answered, turns}}
+use Rattle.demands.specs.promises.Refusing.{NoneHolds, lentLines, rangeLines}
+use Rattle.demands.specs.promises.Demands.{SetUp, memoryAfter, historyOf, used}
 use Rattle.machine.specs.Settings.{bound}
-use Rattle.machine.specs.promises.Refusing.{NoneHolds, lentLines, rangeLines}
-use Rattle.machine.specs.promises.Demands.{SetUp, memoryAfter, historyOf, used}
 use Rattle.machine.specs.declared.{Settings.Settings, Event.Event, Answer.Answer}
 use Rattle.machine.specs.declared.Told.{Told, the-variants.{Done, Seeks, Holds, Freed}}
 use Rattle.machine.specs.declared.{Register.the-variants.Mark, Letter.the-variants.W}

@@ -2,7 +2,7 @@
 use mathlib.Core.List.{List, [], _∷_, _++_}
 use Prim.Native.Nat.{ℕ, _+_, _*_}
 use lib.{Dec.ltb, ListN.{length, drop}}
-use Rattle.machine.specs.Refusals.{when, first}
+use Rattle.demands.specs.Refusals.{when, first}
 use Rattle.machine.specs.declared.{Opening.Opening, Refusal.the-variants.ShortRoom, Verdict.Verdict, Writing.Writing}
 use Rattle.file.specs.File.{opening, Written, writtenOf}
 use Rattle.printed.specs.Listing.{listing}

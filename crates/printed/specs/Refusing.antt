@@ -3,7 +3,7 @@
 use mathlib.Core.{Path._≡_, Logic._⊎_, List.{List, [], _∷_, _++_}}
 use Prim.Native.Nat.{ℕ, _+_, _*_, _≤_, _<_}
 use lib.ListN.{length, drop}
-use Rattle.machine.specs.promises.Refusing.{Line, line, NoneHolds, RefusedExactly}
+use Rattle.demands.specs.promises.Refusing.{Line, line, NoneHolds, RefusedExactly}
 use Rattle.file.specs.{File.writingSaid, Refusing.{sixteen, openLines}}
 use Rattle.printed.specs.{Listing.listing, Listed.listed}
 

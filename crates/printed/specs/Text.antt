@@ -4,7 +4,7 @@
 use mathlib.Core.List.{List, [], _∷_, _++_}
 use Prim.Native.Nat.{ℕ, _≤_}
 use Rattle.text.specs.Plain.{Plain}
-use Rattle.machine.specs.Answers.{said, plain}
+use Rattle.demands.specs.Answers.{said, plain}
 use Rattle.machine.specs.declared.{Settings.Settings, Name.Name, Kind.{Kind, the-variants.{Ask, Turn, Release}}}
 use Rattle.machine.specs.declared.{Event.Event, Refusal.Refusal, Shown.{Shown, the-variants.{Nothing, Touched}}}
 use Rattle.machine.specs.declared.{Register.{Register, the-variants.{X, Mark}}, Letter.{Letter, the-variants.{R, W}}}

@@ -16,7 +16,7 @@ ghost use lib.Dec.{T};
 ghost use Rattle.machine.specs.Settings.{permitted};
 ghost use Rattle.machine.specs.Records.{stateInRange, recordInRange, isIdle, isSeeking, isHolding};
 ghost use Rattle.machine.specs.Turn.{access, nextRecord};
-ghost use Rattle.machine.specs.Calls.{standing, freed, toldOf};
+ghost use Rattle.demands.specs.Calls.{standing, freed, toldOf};
 
 // Whether the task is idle.
 pub fn is_idle(this: Record) -> bool

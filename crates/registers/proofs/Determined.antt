@@ -2,7 +2,8 @@
 -- admits are equal.
 use mathlib.Core.Path.{_≡_, sym, ap, _∙_}
 use Prim.Native.Nat.{ℕ}
-use Rattle.machine.specs.{Memory.Memory, declared.{Settings.Settings, Access.Access}}
+use Rattle.demands.specs.Memory.{Memory}
+use Rattle.machine.specs.declared.{Settings.Settings, Access.Access}
 use Rattle.registers.specs.Touching.{Accessed, touched, touching}
 
 pub touched-determined : (s : Settings) (access : Access) (before : Memory) (v v′ : ℕ) (m m′ : Memory)

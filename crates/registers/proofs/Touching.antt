@@ -2,8 +2,9 @@
 -- by what is done on the row of its register.
 use mathlib.Core.{Path.{_≡_, refl, ap, subst, _∙_}, Bool.{Bool, true, false, cond}, List.List}
 use Prim.Native.Nat.{ℕ}
-use Rattle.machine.specs.{Memory.{Memory, markIndex}, Turn.opWrites}
-use Rattle.machine.specs.promises.OneAccess.{Needed, RegisterNeeded, Writable}
+use Rattle.demands.specs.Memory.{Memory, markIndex}
+use Rattle.machine.specs.Turn.{opWrites}
+use Rattle.demands.specs.promises.OneAccess.{Needed, RegisterNeeded, Writable}
 use Rattle.machine.specs.declared.{Settings.Settings, Register.{Register, the-variants.{X, Mark}}}
 use Rattle.machine.specs.declared.{Op.{Op, the-variants.{Read, Write}}, Access.{Access, the-variants.Touch}}
 use Rattle.registers.specs.Touching.{rows, OnRow, Small, touched, touching}

@@ -2,7 +2,8 @@
 use mathlib.Core.{Path._≡_, Bool.cond, List.{List, []}}
 use Prim.Native.Nat.{ℕ, _≤_}
 use lib.ListN.{getD, set}
-use Rattle.machine.specs.{Memory.Memory, Turn.{opWrites, seen, left, value, store}}
+use Rattle.demands.specs.{Memory.Memory, Touching.{value, store}}
+use Rattle.machine.specs.Turn.{opWrites, seen, left}
 use Rattle.machine.specs.declared.{Settings.Settings, Op.{Op, the-variants.{Read, Write}}, Access.Access}
 
 -- the rows of X numbers and marks as a memory

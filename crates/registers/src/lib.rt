@@ -11,8 +11,8 @@ ghost use lib.Dec.{T};
 ghost use lib.ListN.{length, getD};
 ghost use Rattle.machine.specs.Settings.{permitted};
 ghost use Rattle.machine.specs.Places.{blocks};
-ghost use Rattle.machine.specs.Memory.{marksNeeded, badX, badMark, fill};
-ghost use Rattle.machine.specs.promises.OneAccess.{RegisterNeeded, Writable};
+ghost use Rattle.demands.specs.Memory.{marksNeeded, badX, badMark, fill};
+ghost use Rattle.demands.specs.promises.OneAccess.{RegisterNeeded, Writable};
 ghost use Rattle.registers.specs.Touching.{rows, OnRow, Small, touched, touching};
 
 // ---- what is out of range

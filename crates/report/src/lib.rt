@@ -17,7 +17,7 @@ ghost use mathlib.Core.Path.{_≡_};
 ghost use mathlib.Core.List.{_++_};
 ghost use Prim.Native.Nat.{_+_, _≤_};
 ghost use lib.ListN.{length};
-ghost use Rattle.machine.specs.Answers.{numberOf};
+ghost use Rattle.machine.specs.RefusalNumbers.{numberOf};
 ghost use Rattle.text.specs.Decimal.{decimal, space, lineFeed};
 ghost use Rattle.text.specs.Put.{Puts};
 ghost use Rattle.printed.specs.Listing.{kindText, letterText, registerText, blockOf, placeOf, shownText, fieldsText, toldText};

@@ -14,7 +14,7 @@ ghost use Prim.Native.Nat.{_<_, _^_};
 ghost use lib.ListN.{length, getD, set};
 ghost use Rattle.machine.specs.Records.{idle, isOut, recordInRange};
 ghost use Rattle.counting.specs.Counting.{tick, firstOr};
-ghost use Rattle.machine.specs.Memory.{viewOf};
+ghost use Rattle.demands.specs.Memory.{viewOf};
 ghost use Rattle.rows.specs.Rows.{seenTo};
 
 // What a pass has seen of the records before some index: the first out of range, that index where

@@ -4,17 +4,17 @@ use Prim.Native.Nat.{ℕ, _<_}
 use lib.Dec.{T}
 use borrow.Author.Tests.{leb-false, not-false}
 use Rattle.machine.specs.{Settings.permitted, Records.{stateInRange, turnsInRange, recordInRange}}
-use Rattle.machine.specs.{Memory.Memory, Turn.{access, nextRecord}}
-use Rattle.machine.specs.Refusals.{wrongMoment, lentCases, rangeCases, taskCases, verdict}
-use Rattle.machine.specs.promises.OneAccess.{RegisterNeeded, Writable}
+use Rattle.demands.specs.{Memory.Memory, Refusals.{wrongMoment, lentCases, rangeCases, taskCases, verdict}}
+use Rattle.machine.specs.Turn.{access, nextRecord}
+use Rattle.demands.specs.promises.OneAccess.{RegisterNeeded, Writable}
+use Rattle.demands.proofs.{refusals.{Deciding.no-case, Passed.{Long, none-short-long}}, calls.OneAccess.access-needed}
+use Rattle.machine.proofs.refusals.Limits.{limits}
 use Rattle.machine.specs.declared.{Settings.Settings, View.View, Record.Record, Access.Access, Kind.Kind}
 use Rattle.machine.specs.declared.Verdict.{Verdict}
-use Rattle.machine.proofs.refusals.{Deciding.no-case, Limits.limits, Passed.{Long, none-short-long}}
-use Rattle.machine.proofs.calls.OneAccess.{access-needed}
 use Rattle.registers.specs.Touching.{Accessed, touched, touching}
 use Rattle.rules.specs.Decision.{Sees}
 use Rattle.counting.proofs.Bools.{and-l}
-use Rattle.machine.proofs.calls.Fitting as fitting
+use Rattle.demands.proofs.calls.Fitting as fitting
 
 pub record SeenPassed (s : Settings) (kind : Kind) (p : ℕ) (seen : View) (m : Memory) : Type 0 where
   pub limits : T (permitted s)

@@ -2,10 +2,10 @@
 -- its record and its answer.
 use mathlib.Core.Path.{_≡_, ap}
 use Prim.Native.Nat.{ℕ}
-use Rattle.machine.specs.{Memory.Memory, Turn.{access, shownBy, nextRecord}, Calls.toldOf, Answers.plain}
+use Rattle.demands.specs.{Memory.Memory, Calls.toldOf, Answers.plain, Refusals.verdict}
+use Rattle.machine.specs.Turn.{access, shownBy, nextRecord}
 use Rattle.machine.specs.declared.{Settings.Settings, Record.Record, View.View, Kind.Kind, Access.Access}
 use Rattle.machine.specs.declared.{Refusal.Refusal, Verdict.Verdict, Shown.Shown, Told.Told}
-use Rattle.machine.specs.Refusals.{verdict}
 use Rattle.registers.specs.Touching.{Accessed, touched, touching}
 use Rattle.rules.specs.Decision.{decided, decision}
 

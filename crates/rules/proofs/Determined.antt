@@ -1,7 +1,7 @@
 -- The contracts of `setup` and `decide` determine what is returned, whole and part by part, and the registers
 -- afterwards, row by row: two outcomes that they admit are equal.
 use mathlib.Core.Path.{_≡_, sym, ap, _∙_}
-use Rattle.machine.specs.{Memory.Memory, Calls.Outcome, Lent.leaves}
+use Rattle.demands.specs.{Memory.Memory, Calls.Outcome, Lent.leaves}
 use Rattle.machine.specs.declared.{Settings.Settings, View.View, Event.Event, Answer.Answer}
 use Rattle.rules.specs.Decision.{Decision, decision, decided, preparation}
 use Rattle.rules.specs.declared.Decided.{Decided}

@@ -3,12 +3,12 @@ use mathlib.Core.{Path.{_≡_, refl, sym, ap, subst, _∙_}, Bool.{Bool, true, f
 use Prim.Native.Nat.{ℕ}
 use lib.Dec.{T, ltb}
 use borrow.Author.Tests.{not-false}
-use Rattle.machine.specs.{Settings.permitted, Places.blocks, Memory.{Memory, marksNeeded, badX, badMark}}
-use Rattle.machine.specs.Refusals.{Case, when, first, outsideLimits, rowShort, rowBusy, lentCases, rangeCases}
-use Rattle.machine.specs.Refusals.{taskCases}
-use Rattle.machine.specs.Refusals.{verdict, setupVerdict}
+use Rattle.machine.specs.{Settings.permitted, Places.blocks}
+use Rattle.demands.specs.Memory.{Memory, marksNeeded, badX, badMark}
+use Rattle.demands.specs.Refusals.{Case, when, first, outsideLimits, rowShort, rowBusy, lentCases, rangeCases}
+use Rattle.demands.specs.Refusals.{taskCases, verdict, setupVerdict}
+use Rattle.demands.proofs.refusals.{Deciding.no-case, Passed.{Long, none-short-long}}
 use Rattle.machine.specs.declared.{Settings.Settings, View.View, Kind.Kind, Refusal.Refusal, Verdict.Verdict}
-use Rattle.machine.proofs.refusals.{Deciding.no-case, Passed.{Long, none-short-long}}
 
 -- the two tests of what is lent pass
 pub record LentPassed (s : Settings) (seen : View) (m : Memory) : Type 0 where

@@ -3,10 +3,9 @@
 use mathlib.Core.{Path._≡_, Bool.false}
 use Prim.Native.Nat.{ℕ, _<_}
 use lib.Dec.{T, ltb}
-use Rattle.machine.specs.{Records.recordInRange, Memory.Memory, Turn.{access, store, turnsAfter}}
-use Rattle.machine.specs.Refusals.{setupVerdict, verdict}
-use Rattle.machine.specs.Calls.{Outcome, refuseOr, nextState, shownOf, toldOf, cleared}
-use Rattle.machine.specs.Answers.{plain}
+use Rattle.machine.specs.{Records.recordInRange, Turn.{access, turnsAfter}}
+use Rattle.demands.specs.{Memory.Memory, Touching.store, Refusals.{setupVerdict, verdict}}
+use Rattle.demands.specs.{Calls.{Outcome, refuseOr, nextState, shownOf, toldOf, cleared}, Answers.plain}
 use Rattle.machine.specs.declared.{Settings.Settings, Record.Record, View.View, Kind.Kind}
 use Rattle.machine.specs.declared.{Verdict.Verdict, Told.Told, Answer.Answer}
 use Rattle.rules.specs.declared.Decided.{Decided}

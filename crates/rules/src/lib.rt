@@ -19,11 +19,11 @@ ghost use mathlib.Core.Bool.{false};
 ghost use mathlib.Core.List.{[]};
 ghost use lib.Dec.{T};
 ghost use Rattle.machine.specs.Settings.{permitted};
-ghost use Rattle.machine.specs.Refusals.{first, rowShort, setupVerdict, lentCases, rangeCases, taskCases, oneTimeRelease, wrongMoment, moment, tooManyOut, rowBusy, verdict};
+ghost use Rattle.demands.specs.Refusals.{first, rowShort, setupVerdict, lentCases, rangeCases, taskCases};
+ghost use Rattle.demands.specs.Refusals.{oneTimeRelease, wrongMoment, moment, tooManyOut, rowBusy, verdict};
+ghost use Rattle.demands.specs.{Answers.plain, Lent.leaves};
 ghost use Rattle.registers.specs.Touching.{rows};
 ghost use Rattle.rules.specs.Decision.{Sees, decided, decision, preparation};
-ghost use Rattle.machine.specs.Answers.{plain};
-ghost use Rattle.machine.specs.Lent.{leaves};
 
 // The answer of a call, and the task's record to put back.
 pub struct Decided {

@@ -4,11 +4,11 @@ use mathlib.Core.{Path.{_≡_, refl, sym, ap, subst, _∙_}, Logic.{inl, inr}, L
 use Prim.Native.Nat.{ℕ, _-_, _<_}
 use native.Mathlib.Omega.{arith}
 use lib.{Dec.lit≤, ListN.{length, getD, set, length-set, replicate}, Seq.getD-set-other}
-use Rattle.machine.specs.{Records.idle, Memory.Memory, Calls.{Outcome, call, setup}, Lent.{lent, leaves}}
-use Rattle.machine.specs.promises.{Ranges.WithinLimits, Refusing.SomeRowShort, Demands.SetUp, Reached.Reached}
-use Rattle.machine.specs.promises.Notes.{noted, Agree}
+use Rattle.machine.specs.{Records.idle, promises.Ranges.WithinLimits}
+use Rattle.demands.specs.{Memory.Memory, Calls.{Outcome, call, setup}, Lent.{lent, leaves}}
+use Rattle.demands.specs.promises.{Refusing.SomeRowShort, Demands.SetUp, Reached.Reached, Notes.{noted, Agree}}
 use Rattle.machine.specs.declared.{Settings.Settings, Event.Event, Record.Record, Told.Told, Answer.Answer}
-use Rattle.machine.proofs.histories.{Reached.reached-promises, Notes.notes-kept}
+use Rattle.demands.proofs.histories.{Reached.reached-promises, Notes.notes-kept}
 use Rattle.counting.proofs.Lists.{one-value}
 use Rattle.supervisor.specs.Desk.{board, memoryOf, Kept, HasRow, RowsApart, OwnRowOnly, KeptApart}
 use Rattle.supervisor.specs.declared.Desk.{Desk}

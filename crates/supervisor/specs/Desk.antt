@@ -3,7 +3,7 @@
 use mathlib.Core.Path.{_≡_}
 use Prim.Native.Nat.{ℕ, _+_, _<_}
 use lib.ListN.{length, getD}
-use Rattle.machine.specs.{Memory.Memory, Lent.lent, promises.{Reached.Reached, Notes.Agree}}
+use Rattle.demands.specs.{Memory.Memory, Lent.lent, promises.{Reached.Reached, Notes.Agree}}
 use Rattle.machine.specs.declared.Settings.{Settings}
 use Rattle.supervisor.specs.declared.Desk.{Desk}
 

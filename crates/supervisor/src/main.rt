@@ -16,7 +16,7 @@ use machine::TaskId;
 use machine::Told;
 ghost use mathlib.Core.Path.{_≡_};
 ghost use Prim.Native.Nat.{_+_, _<_};
-ghost use Rattle.machine.specs.promises.Notes.{noted};
+ghost use Rattle.demands.specs.promises.Notes.{noted};
 ghost use Rattle.supervisor.specs.Desk.{board, Kept, RowsApart, OwnRowOnly};
 
 // What the supervisor keeps, by value: the memory that it lends to the calls, for each channel the row

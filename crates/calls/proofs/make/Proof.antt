@@ -1,6 +1,7 @@
 -- `make` hands the call on by its enum, in covered code.
 use denote.Ref.{now}
-use Rattle.machine.{specs.{Lent.lent, Memory.Memory}, proofs.Tests.tests}
+use Rattle.demands.specs.{Lent.lent, Memory.Memory}
+use Rattle.machine.proofs.Tests.{tests}
 use Rattle.calls.proofs.{Making.{setup-made, event-made}, make.Statement.statement}
 use Rattle.calls.proofs.make.Tie as tie
 

@@ -5,7 +5,7 @@ use Rattle.walks.proofs.Prelude.{_$_, !, ‵, use1, by, move, agg, lit, and-the
 use Rattle.walks.proofs.Prelude.{typed, Body, hears, calls, exits, meets, leaves, copies-all}
 use Rattle.walks.proofs.Prelude.{points-to, refers, sets, lands-in, gives, under, lends-shared, shared-back, settled}
 use Rattle.walks.proofs.Prelude.{_≡_, subst, Fn, spelt}
-use Rattle.machine.specs.{Memory.{Memory, viewOf}, Calls.Outcome}
+use Rattle.demands.specs.{Memory.{Memory, viewOf}, Calls.Outcome}
 use Rattle.machine.specs.declared.{Record.Record, Settings.Settings, TaskId.TaskId, View.View}
 use Rattle.rows.proofs.Functions.{R, task-data, view-data, look-fn}
 use Rattle.registers.specs.Touching.{rows}

@@ -6,7 +6,7 @@ use Rattle.walks.proofs.Prelude.{_$_, !, by, move, of-opd, un, and-then, no-mor
 use Rattle.walks.proofs.Prelude.{Body, hears, calls, exits, meets, leaves, copies, copies-all, copies-part, points-to}
 use Rattle.walks.proofs.Prelude.{refers, sets, lands-in, gives, under, lends-shared, shared-back}
 use lib.ListN.{set, length-set}
-use Rattle.machine.specs.Memory.{Memory, viewOf}
+use Rattle.demands.specs.Memory.{Memory, viewOf}
 use Rattle.machine.specs.declared.{Record.Record, Settings.Settings, TaskId.TaskId, View.View, Event.Event}
 use Rattle.rows.proofs.Functions.{R, record-data, task-data, view-data, look-fn, put-fn}
 use Rattle.registers.specs.Touching.{rows}

@@ -1,6 +1,8 @@
 -- What each test shows once it is passed, and from these the verdict at each return.
 use mathlib.Core.{Path.{_≡_, sym, _∙_, ap}, Bool.{false, not}}
-use Rattle.machine.{specs.{Settings.{knownVersion, permitted}, Refusals.outsideLimits}, proofs.Tests.tests}
+use Rattle.machine.specs.Settings.{knownVersion, permitted}
+use Rattle.demands.specs.Refusals.{outsideLimits}
+use Rattle.machine.proofs.Tests.{tests}
 use Rattle.file.specs.File.{lettersRight, versionOf, settingsOf}
 use Rattle.headers.proofs.header.Statement.{statement}
 use Rattle.headers.proofs.header.Tie as tie

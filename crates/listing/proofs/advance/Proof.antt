@@ -4,7 +4,8 @@ use Prim.Native.Nat.{max}
 use lib.ListN.{getD}
 use Rattle.printed.specs.Listing.{completed}
 use denote.Ref.{now}
-use Rattle.machine.specs.{Records.idle, Lent.lent}
+use Rattle.machine.specs.Records.{idle}
+use Rattle.demands.specs.Lent.{lent}
 use Rattle.listing.proofs.{Running.stands-advanced, advance.Statement.statement}
 use borrow.Author.Needs.{needs}
 use Rattle.listing.proofs.advance.Tie as tie

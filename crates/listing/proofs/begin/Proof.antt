@@ -2,7 +2,8 @@
 use mathlib.Core.Path.{refl, ap, _∙_}
 use lib.ListN.{replicate}
 use denote.Ref.{now}
-use Rattle.machine.specs.{Records.idle, Lent.lent}
+use Rattle.machine.specs.Records.{idle}
+use Rattle.demands.specs.Lent.{lent}
 use Rattle.calls.specs.{Made.outcomeOf, declared.Call.Call}
 use Rattle.listing.proofs.{Running.stands-begun, begin.Statement.statement}
 use borrow.Author.Needs.{needs}

@@ -5,7 +5,7 @@ use native.Mathlib.Omega.{arith}
 use borrow.Author.Needs.{needs}
 use lib.ListN.{length}
 use denote.Ref.{now}
-use Rattle.machine.specs.Lent.{lent}
+use Rattle.demands.specs.Lent.{lent}
 use Rattle.listing.proofs.Opened.{tasks-few}
 use Rattle.listing.proofs.Running.{Stands, begins, advances, ends, stands-room}
 use Rattle.listing.proofs.run.Statement.{statement}

@@ -1,11 +1,13 @@
 -- Names are a triangle of side k, by rows or by diagonals; blocks are one of side k - 1.
 use mathlib.Core.{Path.{_≡_, ap, _∙_}, Bool.cond}
-use Prim.Native.Nat.{ℕ, suc, _+_, _-_, _*_, _/_, _≤_}
+use Prim.Native.Nat.{ℕ, suc, _+_, _-_, _*_, _/_, _≤_, _<_}
 use native.Mathlib.{Nat.mul-suc, Numerals.add-one, Decide.ℕ-discrete, Omega.arith}
 use borrow.Author.Tests.{ne-eqb}
 use Rattle.grid.specs.Triangle.{half, placeNumber, diagonalNumber, Numbering}
 use Rattle.grid.proofs.Triangle.{half-suc, half-square, triangle, diagonals}
-use Rattle.machine.specs.{Places.{blocks, blockNumber, names, nameNumber}, declared.Settings.Settings}
+use Rattle.machine.specs.Places.{blocks, blockNumber, names, nameNumber, placeName}
+use Rattle.machine.specs.declared.{Settings.Settings, Place.Place}
+use Rattle.machine.specs.promises.Ranges.{PlaceWithin}
 
 -- the places of a triangle of side k
 pub triangle-half : (k : ℕ) → k * (k + 1) / 2 ≡ half k + k
@@ -36,3 +38,13 @@ name-numbering s = rw (names-half s) (elim (ℕ-discrete (s .version) 1) [
 
 pub block-numbering : (s : Settings) → 1 ≤ s .k → Numbering (s .k - 1) (blockNumber s) (blocks s)
 block-numbering s l = rw (blocks-half s l) (triangle (s .k - 1))
+
+-- ---- what a board gives: the name of a place in range is small, and no two places have one name
+
+pub name-below : (s : Settings) (place : Place) → PlaceWithin s place → placeName s place < s .k * (s .k + 1) / 2
+name-below s place on = name-numbering s .below (place .r) (place .c) (omega arith)
+
+pub names-apart : (s : Settings) (a b : Place) → PlaceWithin s a → PlaceWithin s b → placeName s a ≡ placeName s b → a ≡ b
+names-apart s a b on-a on-b e =
+    let same = name-numbering s .apart (a .r) (a .c) (b .r) (b .c) (omega arith) (omega arith) e in
+    rw (same .0, same .1)

@@ -5,7 +5,6 @@ use native.Mathlib.{Nat.mul-comm, Omega.arith}
 use Rattle.grid.specs.Triangle.{half, placeNumber, diagonalNumber}
 use Rattle.machine.proofs.bridge.Numbering.{name-numbering}
 use Rattle.machine.specs.promises.Numbers.{EachNumbered, EachStateTold}
-use Rattle.machine.specs.Places.{block, cell}
 use Rattle.machine.specs.declared.State.the-variants.{Idle, Seeking, Holding}
 
 -- half (d+1) is d(d+1)/2

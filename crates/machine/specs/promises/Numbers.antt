@@ -1,12 +1,19 @@
--- 01, "Memory that is lent" and "Rules of the grid", and 02, P3: how many blocks and names there are, the number of
--- each, and what the tests of a state say. Theorems: `places-numbered`, `state-told`.
-use mathlib.Core.{Path._≡_, Logic._↔_}
+-- 01, "Memory that is lent", "Rules of the grid" and "Numbers of refusal", and 02, P1, P3 and P4: how many blocks and
+-- names there are, the number of each, what the tests of a state say, and the number of each refusal.
+-- Theorems: `places-numbered`, `state-told`, `refusals-numbered`.
+use mathlib.Core.{Path._≡_, Logic._↔_, List.{[], _∷_}}
 use Prim.Native.Nat.{ℕ, _+_, _-_, _*_, _/_, _≤_}
 use lib.Dec.{T}
 use Rattle.grid.specs.Triangle.{Numbering}
-use Rattle.machine.specs.{Places.{blocks, blockNumber, names, cell, placeName}, Records.{isIdle, isSeeking, isHolding}}
+use Rattle.machine.specs.Places.{blocks, blockNumber, names, cell, placeName}
+use Rattle.machine.specs.{Records.{isIdle, isSeeking, isHolding}, RefusalNumbers.{refusalSaid, numberOf}}
 use Rattle.machine.specs.declared.{Settings.Settings, Stand.Stand, Place.Place}
 use Rattle.machine.specs.declared.State.{State, the-variants.{Idle, Seeking, Holding}}
+use Rattle.machine.specs.declared.Row.{Row, the-variants.{Records, Xs, Marks}}
+use Rattle.machine.specs.declared.Refusal.{Refusal, the-variants.{Limits, ShortRow, BusyRow, OutOfRange}}
+use Rattle.machine.specs.declared.Refusal.the-variants.{NoSuchTask, OneTime, TaskIdle, TaskSeeks, TaskHolds}
+use Rattle.machine.specs.declared.Refusal.the-variants.{TooManyOut, FileLength, Letters, Version, TooManyEvents}
+use Rattle.machine.specs.declared.Refusal.the-variants.{EventCode, NoEvent, ShortRoom}
 
 pub record PlacesNumbered (s : Settings) : Type 0 where
   -- "B = k(k-1)/2 blocks"
@@ -35,3 +42,29 @@ pub record StateTold (state : State) : Type 0 where
 
 abbrev pub EachStateTold : Type 0
 EachStateTold = (state : State) → StateTold state
+
+-- the number of each refusal, in the order of the tests
+pub record RefusalsNumbered : Type 0 where
+  pub limits : numberOf Limits ≡ 1
+  pub short-row : numberOf ShortRow ≡ 2
+  pub busy-row : numberOf BusyRow ≡ 18
+  pub out-of-range : (row : Row) (index : ℕ) → numberOf (OutOfRange row index) ≡ 3
+  pub no-such-task : numberOf NoSuchTask ≡ 4
+  pub one-time : numberOf OneTime ≡ 5
+  pub task-idle : numberOf TaskIdle ≡ 15
+  pub task-seeks : numberOf TaskSeeks ≡ 16
+  pub task-holds : numberOf TaskHolds ≡ 17
+  pub too-many-out : numberOf TooManyOut ≡ 7
+  pub file-length : numberOf FileLength ≡ 8
+  pub letters : numberOf Letters ≡ 9
+  pub version : numberOf Version ≡ 10
+  pub too-many-events : numberOf TooManyEvents ≡ 11
+  pub event-code : numberOf EventCode ≡ 12
+  pub no-event : numberOf NoEvent ≡ 13
+  pub short-room : numberOf ShortRoom ≡ 14
+  -- a refusal "answers its number and nothing more, except that 3 adds which row and the index of the first bad value":
+  -- the rows are told as 0, 1 and 2
+  pub nothing-more : (why : Refusal) → (numberOf why ≡ 3 → ⊥) → refusalSaid why .values ≡ []
+  pub in-records : (index : ℕ) → refusalSaid (OutOfRange Records index) .values ≡ 0 ∷ index ∷ []
+  pub in-xs : (index : ℕ) → refusalSaid (OutOfRange Xs index) .values ≡ 1 ∷ index ∷ []
+  pub in-marks : (index : ℕ) → refusalSaid (OutOfRange Marks index) .values ≡ 2 ∷ index ∷ []

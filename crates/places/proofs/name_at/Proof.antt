@@ -4,7 +4,8 @@ use Prim.Native.Nat.{ℕ}
 use native.Mathlib.Omega.{arith}
 use borrow.Author.Tests.{eq-eqb, ne-eqb}
 use Rattle.grid.specs.Triangle.{placeNumber, diagonalNumber}
-use Rattle.machine.specs.{Calls.nameAt, declared.{Settings.Settings, Name.Name, Place.Place}}
+use Rattle.demands.specs.Calls.{nameAt}
+use Rattle.machine.specs.declared.{Settings.Settings, Name.Name, Place.Place}
 use Rattle.machine.proofs.refusals.{Limits.limits, Ranges.on-cell}
 use Rattle.places.proofs.{Counts.{place-number-fits, diagonal-number-fits}, name_at.Statement.statement}
 use Rattle.places.proofs.name_at.Tie as tie

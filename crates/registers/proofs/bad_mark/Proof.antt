@@ -3,7 +3,7 @@ use mathlib.Core.Path.{_∙_}
 use native.Mathlib.{Nat.le-trans, Omega.arith}
 use borrow.Author.Needs.{needs}
 use denote.Ref.{now}
-use Rattle.machine.specs.Memory.{marksNeeded}
+use Rattle.demands.specs.Memory.{marksNeeded}
 use Rattle.registers.proofs.{Finding.stops-at-none, bad_mark.Statement.statement}
 use Rattle.registers.proofs.bad_mark.Tie as tie
 

@@ -4,7 +4,7 @@ use Prim.Native.Nat.{_+_, _-_, _*_, _≤_, _<_}
 use native.Mathlib.{Nat.zero-mul, Omega.arith}
 use borrow.Author.Needs.{needs}
 use denote.Ref.{now}
-use Rattle.machine.specs.Memory.{marksNeeded}
+use Rattle.demands.specs.Memory.{marksNeeded}
 use Rattle.registers.proofs.Finding.{Low, low-more, stops-at-first, stops-at-none, block-more, block-within}
 use Rattle.registers.proofs.search_marks.Statement.{statement}
 use Rattle.registers.proofs.search_marks.Tie as tie

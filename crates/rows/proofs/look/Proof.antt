@@ -4,7 +4,8 @@ use Rattle.walks.proofs.Prelude.{GhostRules, Running, givenOf, Given, RefT, Roo
 use Rattle.walks.proofs.Prelude.{by, keep, agg, un, and-then, no-more, Args, AllReal, Real, typed, Body, hears, calls}
 use Rattle.walks.proofs.Prelude.{exits, meets, leaves, copies, copies-all, copies-field, sets, lands-in, gives}
 use lib.ListN.{getD}
-use Rattle.machine.specs.{Memory.viewOf, declared.{Record.Record, Settings.Settings, TaskId.TaskId, View.View}}
+use Rattle.demands.specs.Memory.{viewOf}
+use Rattle.machine.specs.declared.{Record.Record, Settings.Settings, TaskId.TaskId, View.View}
 use Rattle.rows.specs.{Rows.seenTo, declared.Seen.Seen}
 use Rattle.rows.proofs.Functions.{R, record-data, task-data, seen-data, view-data, idle-fn, count-fn, pass-fn}
 use Rattle.rows.proofs.Functions.{take-fn, look-fn}

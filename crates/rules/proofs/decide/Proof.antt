@@ -2,7 +2,9 @@
 -- record, and the value read gives the next.
 use mathlib.Core.Path.{_≡_, _∙_, sym}
 use denote.Ref.{now}
-use Rattle.machine.{specs.{Memory.Memory, declared.Verdict.Verdict, Refusals.verdict}, proofs.Tests.tests}
+use Rattle.demands.specs.{Memory.Memory, Refusals.verdict}
+use Rattle.machine.specs.declared.Verdict.{Verdict}
+use Rattle.machine.proofs.Tests.{tests}
 use Rattle.registers.specs.Touching.{rows}
 use Rattle.rules.proofs.Deciding.{refused-decided, accepted-decided}
 use Rattle.rules.proofs.Accepting.{SeenPassed, seen-passed, touch-needed, touch-writable, next-in-range}

@@ -2,7 +2,9 @@
 use mathlib.Core.{Path.{_≡_, _∙_, sym}, Bool.{Bool, true, false}}
 use borrow.Author.Tests.{not-true, not-false}
 use denote.Ref.{now}
-use Rattle.machine.{specs.{Settings.permitted, Refusals.rowShort}, proofs.Tests.tests}
+use Rattle.machine.specs.Settings.{permitted}
+use Rattle.demands.specs.Refusals.{rowShort}
+use Rattle.machine.proofs.Tests.{tests}
 use Rattle.registers.specs.Touching.{rows}
 use Rattle.rules.proofs.lent_verdict.Statement.{statement}
 use Rattle.rules.proofs.lent_verdict.Tie as tie

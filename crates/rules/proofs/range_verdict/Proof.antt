@@ -3,8 +3,10 @@ use mathlib.Core.{Path.{_≡_, _∙_, sym, ap₂}, Bool.{Bool, true, false}}
 use lib.Dec.{ltb}
 use borrow.Author.Tests.{lt-ltb, le-ltb}
 use denote.Ref.{now}
-use Rattle.machine.specs.{Places.blocks, Memory.{marksNeeded, badX, badMark}}
-use Rattle.machine.proofs.{Tests.tests, refusals.Passed.{Long, none-short-long}}
+use Rattle.machine.specs.Places.{blocks}
+use Rattle.demands.specs.Memory.{marksNeeded, badX, badMark}
+use Rattle.machine.proofs.Tests.{tests}
+use Rattle.demands.proofs.refusals.Passed.{Long, none-short-long}
 use Rattle.registers.specs.Touching.{rows}
 use Rattle.rules.proofs.range_verdict.Statement.{statement}
 use Rattle.rules.proofs.range_verdict.Tie as tie

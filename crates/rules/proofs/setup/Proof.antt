@@ -2,7 +2,8 @@
 use mathlib.Core.{Path.{_≡_, _∙_, sym, ap}, List.{[], _∷_}}
 use native.Mathlib.Omega.{arith}
 use denote.Ref.{now}
-use Rattle.machine.{specs.{Memory.{Memory, fill}, Refusals.{when, rowBusy, setupVerdict}}, proofs.Tests.tests}
+use Rattle.demands.specs.{Memory.{Memory, fill}, Refusals.{when, rowBusy, setupVerdict}}
+use Rattle.machine.proofs.Tests.{tests}
 use Rattle.machine.specs.declared.{Refusal.Refusal, Verdict.Verdict}
 use Rattle.registers.specs.Touching.{rows}
 use Rattle.rules.proofs.{Rows.{LentPassed, lent-passes}, setup.Statement.statement}

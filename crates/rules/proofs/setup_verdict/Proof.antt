@@ -1,7 +1,7 @@
 -- `setup_verdict` is the definition's, by its two parts: what is lent, and the records, which must be idle.
 use mathlib.Core.{Path.{_≡_, _∙_, sym}, Bool.{true, false}, List.{[], _∷_}}
 use denote.Ref.{now}
-use Rattle.machine.specs.{Memory.Memory, Refusals.{when, first, rowBusy, lentCases, setupVerdict}}
+use Rattle.demands.specs.{Memory.Memory, Refusals.{when, first, rowBusy, lentCases, setupVerdict}}
 use Rattle.machine.specs.declared.{Refusal.Refusal, Verdict.Verdict}
 use Rattle.machine.proofs.Tests.{tests}
 use Rattle.registers.specs.Touching.{rows}

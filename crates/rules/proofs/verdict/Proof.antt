@@ -1,7 +1,7 @@
 -- `verdict` is the definition's, by its three parts: what is lent, what it holds, the task.
 use mathlib.Core.{Path.{_≡_, _∙_, sym}, List.[]}
 use denote.Ref.{now}
-use Rattle.machine.specs.{Memory.Memory, Refusals.{first, lentCases, rangeCases, taskCases, verdict}}
+use Rattle.demands.specs.{Memory.Memory, Refusals.{first, lentCases, rangeCases, taskCases, verdict}}
 use Rattle.machine.specs.declared.Verdict.{Verdict}
 use Rattle.machine.proofs.Tests.{tests}
 use Rattle.registers.specs.Touching.{rows}

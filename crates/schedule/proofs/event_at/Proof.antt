@@ -5,7 +5,8 @@ use lib.Dec.{leb}
 use borrow.Author.Tests.{le-leb, lt-leb, lt-ltb, le-ltb}
 use Rattle.file.specs.File.{countOf, eventAt, eventCases, readBy, reading}
 use Rattle.file.proofs.Headers.{Header, passed, reading-refused, reading-passed}
-use Rattle.machine.{specs.Refusals.first, proofs.Tests.tests}
+use Rattle.demands.specs.Refusals.{first}
+use Rattle.machine.proofs.Tests.{tests}
 use Rattle.schedule.specs.Next.{nextOf}
 use Rattle.schedule.proofs.event_at.Statement.{statement}
 use Rattle.schedule.proofs.event_at.Tie as tie

@@ -3,7 +3,8 @@ use mathlib.Core.{Path.{_≡_, sym, ap, _∙_}, Bool.{false, not}}
 use native.Mathlib.Omega.{arith}
 use lib.ListN.{length}
 use borrow.Author.Tests.{le-ltb}
-use Rattle.machine.{specs.Refusals.outsideLimits, proofs.Tests.tests}
+use Rattle.demands.specs.Refusals.{outsideLimits}
+use Rattle.machine.proofs.Tests.{tests}
 use Rattle.counting.specs.Counting.{anyBelow}
 use Rattle.file.specs.File.{numberBad, writtenOf}
 use Rattle.writer.proofs.Bytes.{put-file}

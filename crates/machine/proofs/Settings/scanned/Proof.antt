@@ -1,6 +1,5 @@
 -- What a scan leads to is the definition's: by the mark that was read, and by whether it was the last (`Turning`).
 use mathlib.Core.Path.{_∙_, sym}
-use native.Mathlib.Omega.{arith}
 use Rattle.machine.proofs.{Tests.tests, bridge.Turning.{scan-marked, scan-done, scan-on}}
 use Rattle.machine.proofs.Settings.scanned.Statement.{statement}
 use Rattle.machine.proofs.Settings.scanned.Tie as tie
