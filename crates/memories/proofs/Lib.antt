@@ -1,3 +1,4 @@
 -- What the proofs of the lenders share.
 mod Functions
+mod Locals
 mod Lenders
