@@ -1,6 +1,7 @@
 // A supervisor of four channels on a board of k = 2. It serves interrupts in the order in which they
 // come, here from a list, keeps for each channel the row of the table that it holds, and tells each
-// call on a line. That no two channels have one row is in the contract of whatever changes it.
+// call on a line. Every step keeps `Kept`; that no two channels have one row follows from it and is in
+// the contract of `run`, and that an interrupt changes no other channel's row in that of `interrupt`.
 
 use calls::idle_records;
 use calls::setup_of;
@@ -15,9 +16,9 @@ use machine::Settings;
 use machine::TaskId;
 use machine::Told;
 ghost use mathlib.Core.Path.{_≡_};
-ghost use Prim.Native.Nat.{_+_, _<_};
+ghost use Prim.Native.Nat.{_+_, _-_, _≤_, _<_};
 ghost use Rattle.demands.specs.promises.Notes.{noted};
-ghost use Rattle.supervisor.specs.Desk.{board, Kept, RowsApart, OwnRowOnly};
+ghost use Rattle.supervisor.specs.Desk.{board, Kept, RowsApart, OthersKeep, Served};
 
 // What the supervisor keeps, by value: the memory that it lends to the calls, for each channel the row
 // that it has (its number and one more, 0 for none), the table, a total for each name, and what was
@@ -53,7 +54,8 @@ fn number(n: u32) {
     io::print_decimal(STDOUT_FILENO, n as u64);
 }
 
-// A refusal says what the supervisor does about it.
+// What a refusal means for the channel. No other one comes: tests 1 to 3 pass in a reached memory, a
+// channel is below 4, and the board is long-lived.
 fn tell_refused(why: Refusal) {
     match why {
         Refusal::BusyRow => say(b"declines, a channel is out"),
@@ -109,12 +111,27 @@ fn tell_energy(channel: u16, row: u32) {
 
 // ---- what is kept
 
-// A total raised by an energy, at most to the largest value.
-fn raised(total: u32, energy: u8) -> u32 {
-    if total > 4294967040 {
+// What becomes of a total: it is cleared for a new holder, or raised by an energy, at most to the
+// largest value.
+enum Change {
+    Clear,
+    Raise(u8),
+}
+
+fn raised(total: u32, energy: u8) -> u32
+    ensures { λ to. ⌜ (total + energy ≤ 4294967295 → to ≡ total + energy) × (4294967295 < total + energy → to ≡ 4294967295) ⌝ }
+{
+    if total > 4294967295 - energy as u32 {
         return 4294967295;
     }
     total + energy as u32
+}
+
+fn changed(total: u32, change: Change) -> u32 {
+    match change {
+        Change::Clear => 0,
+        Change::Raise(energy) => raised(total, energy),
+    }
 }
 
 // What stands for the row of a name.
@@ -162,7 +179,7 @@ fn begin() -> Desk
 // Setup started again: it declines while a channel is out, and changes nothing then.
 fn set_up(desk: Desk) -> Desk
     requires { ⌜ Kept desk ⌝ }
-    ensures { λ after. ⌜ Kept after ⌝ }
+    ensures { λ after. ⌜ Kept after × (after .rows ≡ desk .rows) × (after .totals ≡ desk .totals) ⌝ }
 {
     let before = desk.records;
     let mut xs = desk.xs;
@@ -186,7 +203,7 @@ fn set_up(desk: Desk) -> Desk
 // One call of a channel. Its row follows the answer.
 fn serve(desk: Desk, kind: Kind, channel: u16) -> Desk
     requires { ⌜ Kept desk × (channel < 4) ⌝ }
-    ensures { λ after. ⌜ Kept after ⌝ }
+    ensures { λ after. ⌜ Kept after × OthersKeep channel desk after × Served kind channel desk after ⌝ }
 {
     let event = Event {
         kind: kind,
@@ -212,11 +229,11 @@ fn serve(desk: Desk, kind: Kind, channel: u16) -> Desk
     }
 }
 
-// The channel's energy goes to its row of the table, if it has one, and to no other; a total stays at
-// the largest value. That the row is in the table is proved: nothing tests it here.
-fn add(desk: Desk, channel: u16, energy: u8) -> Desk
+// The channel's row of the table, if it has one, is changed, and no other channel's. That the row is in
+// the table is proved: nothing tests it here.
+fn change_row(desk: Desk, channel: u16, how: Change) -> Desk
     requires { ⌜ Kept desk × (channel < 4) ⌝ }
-    ensures { λ after. ⌜ Kept after × OwnRowOnly channel desk after ⌝ }
+    ensures { λ after. ⌜ Kept after × OthersKeep channel desk after ⌝ }
 {
     let mine = desk.rows;
     let row = mine[channel as usize];
@@ -224,7 +241,7 @@ fn add(desk: Desk, channel: u16, energy: u8) -> Desk
         return desk;
     }
     let mut totals = desk.totals;
-    totals[row as usize - 1] = raised(totals[row as usize - 1], energy);
+    totals[row as usize - 1] = changed(totals[row as usize - 1], how);
     let records = desk.records;
     let xs = desk.xs;
     let marks = desk.marks;
@@ -240,34 +257,46 @@ fn add(desk: Desk, channel: u16, energy: u8) -> Desk
     }
 }
 
+// A row that the last call gave to the channel is cleared.
+fn cleared(desk: Desk, channel: u16) -> Desk
+    requires { ⌜ Kept desk × (channel < 4) ⌝ }
+    ensures { λ after. ⌜ Kept after × OthersKeep channel desk after ⌝ }
+{
+    let told = desk.told;
+    if let Told::Holds(_) = told {
+        return change_row(desk, channel, Change::Clear);
+    }
+    desk
+}
+
 // ---- the interrupts
 
 // A call, and its line.
 fn told_serve(desk: Desk, kind: Kind, channel: u16) -> Desk
     requires { ⌜ Kept desk × (channel < 4) ⌝ }
-    ensures { λ after. ⌜ Kept after ⌝ }
+    ensures { λ after. ⌜ Kept after × OthersKeep channel desk after ⌝ }
 {
     tell_call(kind, channel);
-    let after = serve(desk, kind, channel);
-    let told = after.told;
+    let served = serve(desk, kind, channel);
+    let told = served.told;
     tell(told);
-    after
+    cleared(served, channel)
 }
 
 // The channel's energy, and its line.
 fn told_add(desk: Desk, channel: u16) -> Desk
     requires { ⌜ Kept desk × (channel < 4) ⌝ }
-    ensures { λ after. ⌜ Kept after × OwnRowOnly channel desk after ⌝ }
+    ensures { λ after. ⌜ Kept after × OthersKeep channel desk after ⌝ }
 {
     let rows = desk.rows;
     tell_energy(channel, rows[channel as usize]);
-    add(desk, channel, 7)
+    change_row(desk, channel, Change::Raise(7))
 }
 
 // A setup started again, and its line.
 fn told_set_up(desk: Desk) -> Desk
     requires { ⌜ Kept desk ⌝ }
-    ensures { λ after. ⌜ Kept after ⌝ }
+    ensures { λ after. ⌜ Kept after × (after .rows ≡ desk .rows) × (after .totals ≡ desk .totals) ⌝ }
 {
     let after = set_up(desk);
     let told = after.told;
@@ -280,7 +309,7 @@ fn told_set_up(desk: Desk) -> Desk
 // passed over.
 fn interrupt(desk: Desk, letter: u8, digit: u8) -> Desk
     requires { ⌜ Kept desk ⌝ }
-    ensures { λ after. ⌜ Kept after ⌝ }
+    ensures { λ after. ⌜ Kept after × OthersKeep (digit - 48) desk after ⌝ }
 {
     if digit < b'0' {
         return desk;

@@ -1,7 +1,8 @@
 -- For whoever calls: a memory is reached where an accepted setup, and then some calls with the same settings, left it.
--- Setup reaches, and every call and every further setup keeps that, so that it can stand in the invariant of a supervisor's loop; demand 3 is
--- said of any reached memory, and for every permitted settings there is one (`SetupTakes`). Beside it, of any memory:
--- what one call does to names, told by its answer. Theorem: `reached-promises`.
+-- Setup reaches, and every call and every further setup keeps that, so that it can stand in the invariant of a
+-- supervisor's loop. Of any reached memory is said what demand 3 says of names, of a seeker's turn and of the turns
+-- used; with any permitted settings there is one (`SetupTakes`). Beside it, of any memory: what one call does to names,
+-- told by its answer. Theorem: `reached-promises`.
 use mathlib.Core.{Path._≡_, Logic._↔_, List.List}
 use Prim.Native.Nat.{ℕ, _+_, _*_, _/_, _≤_, _<_}
 use lib.Dec.{T}

@@ -1,16 +1,35 @@
--- Which mark a turn writes, what an operation sees and leaves, and what is shown of it, as laws of `pointAccess`,
+-- What a turn touches, what an operation sees and leaves, and what is shown of it, as laws of `pointAccess`,
 -- `seen`, `left` and `shownBy`.
 use mathlib.Core.{Path.{_≡_, refl, sym, ap}, Bool.not}
-use Prim.Native.Nat.{ℕ}
-use Rattle.machine.specs.{Places.blockNumber, Grid.pointAccess}
-use Rattle.machine.specs.Turn.{opReads, opWrites, seen, left, shownBy}
-use Rattle.machine.specs.declared.{Settings.Settings, Point.the-variants.WriteMark}
-use Rattle.machine.specs.declared.{Register.{Register, the-variants.Mark}, Op.{Op, the-variants.{Read, Write}}}
+use Prim.Native.Nat.{ℕ, _+_}
+use Rattle.machine.specs.{Settings.own, Places.{blockNumber, block}, Grid.pointAccess}
+use Rattle.machine.specs.Turn.{access, opReads, opWrites, seen, left, shownBy}
+use Rattle.machine.specs.declared.{Settings.Settings, Direction.Direction, Kind.the-variants.Turn, State.the-variants.Seeking}
+use Rattle.machine.specs.declared.Point.{Point, the-variants.{WriteX, Scan, WriteMark, ReadX, Clear}}
+use Rattle.machine.specs.declared.{Register.{Register, the-variants.{X, Mark}}, Op.{Op, the-variants.{Read, Write}}}
 use Rattle.machine.specs.declared.{Access.{Access, the-variants.Touch}, Letter.the-variants.{R, W}}
 use Rattle.machine.specs.declared.Shown.the-variants.{Touched}
 use Rattle.machine.proofs.bridge.AsRules.{own-one-time, own-long-lived}
 
 module _ (s : Settings) (p r c : ℕ) where
+  -- what each other point touches
+  pub writes-x : Touch (X (blockNumber s r c)) (Write (p + 1)) ≡ pointAccess s p r c WriteX
+  writes-x = refl
+
+  pub scans : (h : ℕ) → Touch (Mark (blockNumber s r c) h) Read ≡ pointAccess s p r c (Scan h)
+  scans h = refl
+
+  pub reads-x : Touch (X (blockNumber s r c)) Read ≡ pointAccess s p r c ReadX
+  reads-x = refl
+
+  pub clears-own : (d : Direction)
+      → Touch (Mark (blockNumber s r c) (own s p)) (Write 0) ≡ pointAccess s p r c (Clear d)
+  clears-own d = refl
+
+  -- and a seeker's turn touches what its point does
+  pub turn-touches : (point : Point) → pointAccess s p r c point ≡ access s Turn p (Seeking (block r c point))
+  turn-touches point = refl
+
   abbrev marks : ℕ → Access
   marks place = Touch (Mark (blockNumber s r c) place) (Write 1)
 

@@ -1,5 +1,5 @@
 -- Names are a triangle of side k, by rows or by diagonals; blocks are one of side k - 1.
-use mathlib.Core.{Path.{_≡_, ap, _∙_}, Bool.cond}
+use mathlib.Core.{Path.{_≡_, refl, ap, _∙_}, Bool.cond}
 use Prim.Native.Nat.{ℕ, suc, _+_, _-_, _*_, _/_, _≤_, _<_}
 use native.Mathlib.{Nat.mul-suc, Numerals.add-one, Decide.ℕ-discrete, Omega.arith}
 use borrow.Author.Tests.{ne-eqb}
@@ -41,8 +41,12 @@ block-numbering s l = rw (blocks-half s l) (triangle (s .k - 1))
 
 -- ---- what a board gives: the name of a place in range is small, and no two places have one name
 
+-- the name of a place is the number at its row and column
+pub named-there : (s : Settings) (place : Place) → nameNumber s (place .r) (place .c) ≡ placeName s place
+named-there s place = refl
+
 pub name-below : (s : Settings) (place : Place) → PlaceWithin s place → placeName s place < s .k * (s .k + 1) / 2
-name-below s place on = name-numbering s .below (place .r) (place .c) (omega arith)
+name-below s place on = rw (← named-there s place) (name-numbering s .below (place .r) (place .c) (omega arith))
 
 pub names-apart : (s : Settings) (a b : Place) → PlaceWithin s a → PlaceWithin s b → placeName s a ≡ placeName s b → a ≡ b
 names-apart s a b on-a on-b e =

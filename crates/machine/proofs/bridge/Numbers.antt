@@ -4,7 +4,7 @@ use Prim.Native.Nat.{ℕ, _+_, _-_, _*_, _/_}
 use native.Mathlib.{Nat.mul-comm, Omega.arith}
 use Rattle.grid.specs.Triangle.{half, placeNumber, diagonalNumber}
 use Rattle.machine.proofs.bridge.Numbering.{name-numbering}
-use Rattle.machine.specs.promises.Numbers.{EachNumbered, EachStateTold}
+use Rattle.machine.specs.promises.Numbers.{EachNumbered, EachBuiltAt, EachStateTold}
 use Rattle.machine.specs.declared.State.the-variants.{Idle, Seeking, Holding}
 
 -- half (d+1) is d(d+1)/2
@@ -17,9 +17,18 @@ places-numbered s = record {
   block-count = refl;
   block-at = λ r c on. refl;
   name-count = refl;
-  name-by-row = λ one r c on. rw one;
-  name-by-diagonal = λ two r c on. rw two (ap (λ (n : ℕ). n / 2 + r) (next-product (r + c)));
+  name-by-row = λ one place on. rw one;
+  name-by-diagonal = λ two place on. rw two (ap (λ (n : ℕ). n / 2 + place .r) (next-product (place .r + place .c)));
   each-name-once = name-numbering s;
+}
+
+pub built-at : EachBuiltAt
+built-at r c point = record {
+  stand-row = refl;
+  stand-column = refl;
+  stand-point = refl;
+  cell-row = refl;
+  cell-column = refl;
 }
 
 -- states of two kinds are not equal

@@ -5,9 +5,9 @@ use mathlib.Core.{Path._≡_, Logic._↔_, List.{[], _∷_}}
 use Prim.Native.Nat.{ℕ, _+_, _-_, _*_, _/_, _≤_}
 use lib.Dec.{T}
 use Rattle.grid.specs.Triangle.{Numbering}
-use Rattle.machine.specs.Places.{blocks, blockNumber, names, cell, placeName}
+use Rattle.machine.specs.Places.{blocks, blockNumber, names, block, cell, placeName}
 use Rattle.machine.specs.{Records.{isIdle, isSeeking, isHolding}, RefusalNumbers.{refusalSaid, numberOf}}
-use Rattle.machine.specs.declared.{Settings.Settings, Stand.Stand, Place.Place}
+use Rattle.machine.specs.declared.{Settings.Settings, Point.Point, Stand.Stand, Place.Place}
 use Rattle.machine.specs.declared.State.{State, the-variants.{Idle, Seeking, Holding}}
 use Rattle.machine.specs.declared.Row.{Row, the-variants.{Records, Xs, Marks}}
 use Rattle.machine.specs.declared.Refusal.{Refusal, the-variants.{Limits, ShortRow, BusyRow, OutOfRange}}
@@ -23,13 +23,24 @@ pub record PlacesNumbered (s : Settings) : Type 0 where
   -- names lie "below k(k+1)/2"
   pub name-count : names s ≡ s .k * (s .k + 1) / 2
   -- "The name at (r, c) is rk - r(r-1)/2 + c", and "version 1 keeps the row rule"
-  pub name-by-row : s .version ≡ 1 → (r c : ℕ) → r + c + 1 ≤ s .k
-      → placeName s (cell r c) ≡ r * s .k - r * (r - 1) / 2 + c
+  pub name-by-row : s .version ≡ 1 → (place : Place) → place .r + place .c + 1 ≤ s .k
+      → placeName s place ≡ place .r * s .k - place .r * (place .r - 1) / 2 + place .c
   -- "In files of version 2 the name at (r, c) of modes 0 and 1 is d(d+1)/2 + r with d = r+c"
-  pub name-by-diagonal : s .version ≡ 2 → (r c : ℕ) → r + c + 1 ≤ s .k
-      → placeName s (cell r c) ≡ (r + c) * (r + c + 1) / 2 + r
+  pub name-by-diagonal : s .version ≡ 2 → (place : Place) → place .r + place .c + 1 ≤ s .k
+      → placeName s place ≡ (place .r + place .c) * (place .r + place .c + 1) / 2 + place .r
   -- "Both rules number the places of the triangle 0 to k(k+1)/2-1, each exactly once"
   pub each-name-once : Numbering (s .k) (λ r c. placeName s (cell r c)) (s .k * (s .k + 1) / 2)
+
+-- a stand and a cell have the row and the column by which they are built: the lines of the rules speak of them so
+pub record BuiltAt (r c : ℕ) (point : Point) : Type 0 where
+  pub stand-row : block r c point .r ≡ r
+  pub stand-column : block r c point .c ≡ c
+  pub stand-point : block r c point .point ≡ point
+  pub cell-row : cell r c .r ≡ r
+  pub cell-column : cell r c .c ≡ c
+
+abbrev pub EachBuiltAt : Type 0
+EachBuiltAt = (r c : ℕ) (point : Point) → BuiltAt r c point
 
 abbrev pub EachNumbered : Type 0
 EachNumbered = (s : Settings) → PlacesNumbered s

@@ -8,7 +8,7 @@ returns : tie.Need-returns
 returns c =
     let at = c .before .before .before .before in
     let lent = at .before .before .before in
-    begun _ _ (rw (lent .before .board .ensures, lent .idle-records .ensures) at (at .setup-of .ensures)) refl
+    begun _ _ (rw (lent .before .board .ensures, lent .idle-records .ensures) at (at .setup-of .ensures)) refl refl
 
 pub begin-spec : {M : Type 1} → statement M
 begin-spec =

@@ -8,8 +8,11 @@ returns : tie.Need-returns
 returns c =
     let at = c .before .before .before .before .before .before in
     let lent = at .before .before .before in
-    let start = lent .before .before .before .before in
-    set-up-again (start .args .desk) _ _ (start .pre) (rw (lent .board .ensures) at (at .setup-of .ensures)) refl
+    let start = lent .before .before .before .before in (
+      set-up-again (start .args .desk) _ _ (start .pre) (rw (lent .board .ensures) at (at .setup-of .ensures)) refl refl,
+      refl,
+      refl,
+    )
 
 pub set-up-spec : {M : Type 1} → statement M
 set-up-spec =
