@@ -2,8 +2,9 @@
 //! with the proved program.
 //!
 //! The machine is `grid` (the memory), `access` and `rules` (what an accepted call does), `calls` (who
-//! is refused and why), `schedule` (the file) and `listing` (the text). `variants` holds wrong grids.
-//! `generate` makes schedules and damaged files from a seed, `call_cases` calls on any memory;
+//! is refused and why), `schedule` (the file), `listing` (the text) and `lines` (the file as comma
+//! lines). `variants` holds wrong grids and wrong conversions. `generate` makes schedules and damaged
+//! files from a seed, `call_cases` calls on any memory, `line_cases` texts and files to convert;
 //! `comparison` runs a program on them. The rest are the commands.
 
 pub mod access;
@@ -18,7 +19,10 @@ pub mod grid;
 pub mod history;
 pub mod invariants;
 pub mod light_load;
+pub mod line_cases;
+pub mod lines;
 pub mod listing;
+pub mod options;
 pub mod power;
 pub mod program;
 pub mod random;

@@ -9,12 +9,15 @@ use std::time::{Instant, SystemTime, UNIX_EPOCH};
 
 use independent::generate::worst::{in_order, worst_schedule, LastWriter};
 use independent::grid::Settings;
+use independent::lines::{convert, said, Conversion, Lines, AS_NEEDED};
 use independent::listing::listing;
+use independent::options::{number, program_arguments, Options};
 use independent::program::{ListingHere, Printer, Program};
 use independent::rules::{Grid, Rules};
 use independent::schedule::{file_of, Event, Kind, MOST_EVENTS};
+use independent::variants::lines::conversion_named;
 use independent::variants::rules_named;
-use independent::{call_cases, compare, cut, invariants, power, trace};
+use independent::{call_cases, compare, cut, invariants, line_cases, power, trace};
 
 const USAGE: &str = "\
 independent compare PROGRAM [--seed S] [--count C] [--seconds T] [-- ARGUMENTS...]
@@ -49,15 +52,26 @@ independent calls --check-store DIR
 independent memories [--variant NAME]
     prints what is due on an input of calls, by the grid or by a variant
 independent time FILE
-    prints the time that the listing of FILE takes here";
+    prints the time that the listing of FILE takes here
+independent convert [--room N] [--variant NAME]
+    writes standard input, a schedule file, as comma lines, or comma lines as a schedule file, into a
+    room of N bytes if one is given; by 02, P12 or by a misreading of it
+independent convert --time FILE
+    prints the time that the conversion of FILE takes here
+independent lines PROGRAM [--rooms] [--seed S] [--count C] [--seconds T] [-- ARGUMENTS...]
+    compares what PROGRAM writes, says and ends with on texts and files to convert with what is due;
+    with --rooms in small rooms too, the program being started with --room N
+independent texts DIR [--seed S] [--count C]
+    writes these texts and files, and what is due on them, into DIR";
 
 const SEED: u64 = 1;
-// How many random cases `compare`, `power`, `trace`, `cut` and `invariants` run, and how long `fresh`
-// runs.
+// How many random cases `compare`, `power`, `trace` and `cut`, `invariants` and `lines` run, and how
+// long `fresh` runs.
 const COMPARED: u64 = 3_000;
 const TOLD: u64 = 1_000;
 const TRACED: u64 = 1_000;
 const CHECKED: u64 = 2_000;
+const CONVERTED: u64 = 1_000;
 const SECONDS: u64 = 60;
 
 fn main() -> ExitCode {
@@ -122,42 +136,24 @@ fn run(words: &[&str]) -> Result<ExitCode, String> {
         ["calls", program, words @ ..] => compare_calls(program, words),
         ["memories"] => make_calls("grid"),
         ["memories", "--variant", name] => make_calls(name),
-        ["time", file] => time(&read_file(file)?),
+        ["time", file] => {
+            let bytes = read_file(file)?;
+            time(|| listing(&Grid, &bytes).len())
+        }
+        ["convert", "--time", file] => {
+            let bytes = read_file(file)?;
+            time(|| convert(&Lines, &bytes, AS_NEEDED).map_or(0, |output| output.len()))
+        }
+        ["convert", words @ ..] => convert_input(words),
+        ["lines", program, words @ ..] => compare_lines(program, words),
+        ["texts", directory, options @ ..] => {
+            let options = Options::read(options, &["--seed", "--count"])?;
+            let (seed, count) = (options.seed.unwrap_or(SEED), options.count.unwrap_or(CONVERTED));
+            let written = line_cases::store::write(Path::new(directory), seed, count);
+            written.map(|()| ExitCode::SUCCESS).map_err(|error| format!("{directory}: {error}"))
+        }
         _ => Err(USAGE.to_string()),
     }
-}
-
-/// The numbers that follow options of a command.
-#[derive(Default)]
-struct Options {
-    seed: Option<u64>,
-    count: Option<u64>,
-    seconds: Option<u64>,
-}
-
-impl Options {
-    fn read(words: &[&str], allowed: &[&str]) -> Result<Options, String> {
-        let mut options = Options::default();
-        for pair in words.chunks(2) {
-            let [name, value] = pair else {
-                return Err(format!("{} needs a number", pair[0]));
-            };
-            if !allowed.contains(name) {
-                return Err(format!("no option {name} here; it takes {}", allowed.join(", ")));
-            }
-            let value = Some(number(value)?);
-            match *name {
-                "--seed" => options.seed = value,
-                "--count" => options.count = value,
-                _ => options.seconds = value,
-            }
-        }
-        Ok(options)
-    }
-}
-
-fn number<T: std::str::FromStr>(word: &str) -> Result<T, String> {
-    word.parse().map_err(|_| format!("'{word}' is no number that fits here"))
 }
 
 /// The settings `[--version V] MODE N K`, and the words after them.
@@ -256,6 +252,38 @@ fn compare_calls(program: &str, words: &[&str]) -> Result<ExitCode, String> {
     })))
 }
 
+/// Converts standard input, or says why it is refused.
+fn convert_input(words: &[&str]) -> Result<ExitCode, String> {
+    let (mut conversion, mut room): (&dyn Conversion, usize) = (&Lines, AS_NEEDED);
+    for pair in words.chunks(2) {
+        match *pair {
+            ["--room", length] => room = number(length)?,
+            ["--variant", name] => {
+                conversion = conversion_named(name).ok_or(format!("no variant {name}"))?;
+            }
+            _ => return Err(USAGE.to_string()),
+        }
+    }
+    print(&convert(conversion, &read_input()?, room).map_err(said)?)
+}
+
+/// The fixed texts and files and the random ones of a seed.
+fn compare_lines(program: &str, words: &[&str]) -> Result<ExitCode, String> {
+    let (words, arguments) = program_arguments(words);
+    let (rooms, options) = match words {
+        ["--rooms", options @ ..] => (true, options),
+        _ => (false, words),
+    };
+    let options = Options::read(options, &["--seed", "--count", "--seconds"])?;
+    Ok(closing_line(line_cases::compare::run(&line_cases::compare::Plan {
+        program: Program { path: PathBuf::from(program), arguments },
+        rooms,
+        seed: options.seed.unwrap_or(SEED),
+        count: options.count.or(options.seconds.is_none().then_some(CONVERTED)),
+        seconds: options.seconds,
+    })))
+}
+
 /// Only random cases, of a seed from the clock.
 fn fresh_with(program: &str, words: &[&str]) -> Result<ExitCode, String> {
     let (options, arguments) = program_arguments(words);
@@ -270,13 +298,6 @@ fn fresh_with(program: &str, words: &[&str]) -> Result<ExitCode, String> {
     })))
 }
 
-/// The options before `--`, and what the program is started with after it.
-fn program_arguments<'a>(words: &'a [&'a str]) -> (&'a [&'a str], Vec<String>) {
-    let end = words.iter().position(|word| *word == "--").unwrap_or(words.len());
-    let arguments = words.iter().skip(end + 1).map(|word| word.to_string()).collect();
-    (&words[..end], arguments)
-}
-
 /// The last line of a command that checks something, and its exit status.
 fn closing_line((passed, failed): (usize, usize)) -> ExitCode {
     println!("{passed} passed, {failed} failed");
@@ -287,13 +308,13 @@ fn closing_line((passed, failed): (usize, usize)) -> ExitCode {
     }
 }
 
-/// Runs the listing for about two seconds.
-fn time(bytes: &[u8]) -> Result<ExitCode, String> {
+/// Runs what prints so many bytes for about two seconds.
+fn time(printed: impl Fn() -> usize) -> Result<ExitCode, String> {
     let start = Instant::now();
     let mut runs = 0;
     let mut length = 0;
     while runs == 0 || start.elapsed().as_secs_f64() < 2.0 {
-        length = listing(&Grid, bytes).len();
+        length = printed();
         runs += 1;
     }
     let each = start.elapsed().as_secs_f64() * 1000.0 / f64::from(runs);

@@ -1,15 +1,20 @@
 //! The command `power`: the generated schedules tell from the grid each variant that differs in
 //! listings, the calls on arbitrary memories each that differs in calls, and `trace` finds a fault in
-//! the listings of each that shows wrong accesses.
+//! the listings of each that shows wrong accesses. The generated texts and files tell each misreading
+//! of comma lines from the conversions.
 
 use std::collections::HashMap;
 use std::thread;
 
 use crate::call_cases::{self, CallCase};
 use crate::generate::{fixed_cases, random_case, Case};
+use crate::line_cases;
+use crate::lines::{convert, Conversion, Lines, AS_NEEDED};
 use crate::listing::listing;
+use crate::refusal::Refusal;
 use crate::rules::{Grid, Rules};
 use crate::trace;
+use crate::variants::lines::Misreading;
 use crate::variants::{self, accesses, Variant};
 
 /// Longer files are left out: they are few and would take most of the time.
@@ -91,9 +96,36 @@ fn faulty_traces(rules: &dyn Rules, cases: &[(Case, String)]) -> usize {
     cases.iter().filter(faulty).count()
 }
 
+/// A text or file, its room, and what its conversion gives.
+struct Converted {
+    bytes: Vec<u8>,
+    room: usize,
+    answer: Result<Vec<u8>, Refusal>,
+}
+
+/// The texts and files of a seed, and the small ones in every room.
+fn conversions(seed: u64, count: u64) -> Vec<Converted> {
+    let random = (0..count).map(|index| line_cases::random_case(seed, index));
+    let whole = line_cases::fixed_cases().into_iter().chain(random).map(|case| (case, AS_NEEDED));
+    let small = line_cases::in_rooms();
+    let small =
+        line_cases::ROOMS.flat_map(|room| small.iter().map(move |case| (case.clone(), room)));
+    let converted = |(case, room): (Case, usize)| {
+        let answer = convert(&Lines, &case.bytes, room);
+        Converted { bytes: case.bytes, room, answer }
+    };
+    whole.chain(small).map(converted).collect()
+}
+
+/// How many are converted otherwise.
+fn conversions_told(conversion: &dyn Conversion, cases: &[Converted]) -> usize {
+    let other = |case: &&Converted| convert(conversion, &case.bytes, case.room) != case.answer;
+    cases.iter().filter(other).count()
+}
+
 /// Prints one line a variant (how many listings differ from the grid's, in how many of these two
-/// tasks hold one name, and the shortest), then one with the faulty traces and one with the calls
-/// that differ, and answers how many were told from the grid and how many not, by each of these.
+/// tasks hold one name, and the shortest), then one with the faulty traces, one with the calls that
+/// differ and those of `of_lines`, and answers how many were told and how many not, by each of these.
 pub fn run(seed: u64, count: u64) -> (usize, usize) {
     let random = (0..count).map(|index| random_case(seed, index));
     let with_listing = |case: Case| {
@@ -140,5 +172,31 @@ pub fn run(seed: u64, count: u64) -> (usize, usize) {
     for Variant { name, rules, .. } in &by_calls {
         tell(name, calls_told(*rules, &calls), "calls that differ");
     }
-    (passed, variants.len() + accesses::ALL.len() + by_calls.len() - passed)
+    let failed = variants.len() + accesses::ALL.len() + by_calls.len() - passed;
+    let (told, not_told) = of_lines(seed, count);
+    (passed + told, failed + not_told)
+}
+
+/// Prints one line a misreading of comma lines, with the conversions that differ, and answers how many
+/// were told from the conversions and how many not.
+pub fn of_lines(seed: u64, count: u64) -> (usize, usize) {
+    let conversions = conversions(seed, count);
+    println!("{} texts and files, under each misreading of comma lines", conversions.len());
+    let misreadings = variants::lines::all();
+    let differing: Vec<usize> = thread::scope(|scope| {
+        let tell = |misreading: &Misreading| {
+            let conversion = misreading.conversion;
+            scope.spawn(|| conversions_told(conversion, &conversions))
+        };
+        let telling: Vec<_> = misreadings.iter().map(tell).collect();
+        telling.into_iter().map(|told| told.join().expect("a conversion ends")).collect()
+    });
+    for (Misreading { name, .. }, differing) in misreadings.iter().zip(&differing) {
+        match differing {
+            0 => println!("{name}: NOT TOLD from the conversions"),
+            _ => println!("{name}: {differing} conversions that differ"),
+        }
+    }
+    let told = differing.iter().filter(|differing| **differing > 0).count();
+    (told, misreadings.len() - told)
 }

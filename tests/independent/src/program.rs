@@ -32,22 +32,38 @@ impl Printer for ListingHere {
     }
 }
 
+#[derive(Clone)]
 pub struct Program {
     pub path: PathBuf,
     /// What the program is started with; the proved ones take nothing.
     pub arguments: Vec<String>,
 }
 
+/// What a run of a program left, if it ended by itself.
+pub struct Ran {
+    pub printed: Vec<u8>,
+    /// Standard error.
+    pub said: Vec<u8>,
+    pub status: i32,
+}
+
 impl Printer for Program {
     /// Runs the program on the bytes. 01 says nothing of its exit status or of standard error, so
     /// any status will do but an end by a signal.
     fn print(&self, bytes: &[u8], piece: usize) -> Result<Vec<u8>, String> {
+        self.run(bytes, piece).map(|ran| ran.printed)
+    }
+}
+
+impl Program {
+    pub fn run(&self, bytes: &[u8], piece: usize) -> Result<Ran, String> {
         let mut command = Command::new(&self.path);
         command.args(&self.arguments);
-        command.stdin(Stdio::piped()).stdout(Stdio::piped()).stderr(Stdio::null());
+        command.stdin(Stdio::piped()).stdout(Stdio::piped()).stderr(Stdio::piped());
         let mut child = command.spawn().map_err(|error| format!("cannot be started: {error}"))?;
         let input = child.stdin.take();
         let output = child.stdout.take();
+        let errors = child.stderr.take();
         thread::scope(|scope| {
             let (send, printed) = mpsc::channel();
             scope.spawn(move || {
@@ -55,11 +71,10 @@ impl Printer for Program {
                     hand_over(input, bytes, piece);
                 }
             });
+            let said = scope.spawn(move || whole(errors));
             scope.spawn(move || {
-                let mut bytes = Vec::new();
-                let read = output.map(|mut output| output.read_to_end(&mut bytes));
                 // Nobody listens any more if the program was ended.
-                let _ = send.send(read.map(|read| read.map(|_| bytes)));
+                let _ = send.send(whole(output));
             });
             let printed = printed.recv_timeout(PATIENCE);
             if printed.is_err() {
@@ -67,15 +82,21 @@ impl Printer for Program {
                 let _ = child.kill();
             }
             let status = child.wait().map_err(|error| format!("no exit status: {error}"))?;
-            match printed {
-                Err(_) => Err(RAN_TOO_LONG.to_string()),
-                Ok(Some(Ok(bytes))) if status.code().is_some() => Ok(bytes),
-                Ok(Some(Ok(_))) => Err(format!("ended by a signal: {status}")),
-                Ok(Some(Err(error))) => Err(format!("its output cannot be read: {error}")),
-                Ok(None) => Err("has no output".to_string()),
+            let printed = printed.map_err(|_| RAN_TOO_LONG.to_string())??;
+            let said = said.join().map_err(|_| "standard error cannot be read".to_string())??;
+            match status.code() {
+                Some(status) => Ok(Ran { printed, said, status }),
+                None => Err(format!("ended by a signal: {status}")),
             }
         })
     }
+}
+
+/// All that is written to an output.
+fn whole(output: Option<impl Read>) -> Result<Vec<u8>, String> {
+    let mut bytes = Vec::new();
+    let read = output.ok_or("has no output")?.read_to_end(&mut bytes);
+    read.map(|_| bytes).map_err(|error| format!("its output cannot be read: {error}"))
 }
 
 /// Writes the bytes. A program need not read all of an input that is too long.

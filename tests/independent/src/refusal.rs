@@ -20,13 +20,16 @@ impl fmt::Display for Row {
     }
 }
 
-/// Why a call is refused; only 3 says more than its number. 6 is retired (02, P1): only a variant
-/// answers it.
+/// Why a call or a conversion is refused; only 3 and 20 say more than their number. 6 is retired (02,
+/// P1): only a variant answers it.
 #[derive(Clone, Copy, PartialEq, Eq, Debug)]
 pub enum Refusal {
     Settings,
     ShortRow,
-    OutOfRange { row: Row, index: usize },
+    OutOfRange {
+        row: Row,
+        index: usize,
+    },
     Identifier,
     OneTimeRelease,
     WrongMoment,
@@ -42,6 +45,10 @@ pub enum Refusal {
     TaskSeeking,
     TaskHolding,
     BusyRow,
+    /// The first line of a text that breaks the form, counted from 1 (02, P12).
+    Form {
+        line: usize,
+    },
 }
 
 impl Refusal {
@@ -65,6 +72,7 @@ impl Refusal {
             Refusal::TaskSeeking => 16,
             Refusal::TaskHolding => 17,
             Refusal::BusyRow => 18,
+            Refusal::Form { .. } => 20,
         }
     }
 }

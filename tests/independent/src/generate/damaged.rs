@@ -83,7 +83,7 @@ impl Fault {
 }
 
 /// Each fault alone and each two together, in a small file, in a full one and in one too long.
-fn faults() -> Vec<Case> {
+pub fn faults() -> Vec<Case> {
     let mut cases = Vec::new();
     let mut too_long = full_file(MOST_EVENTS);
     too_long.resize(LARGEST_FILE + 100_000, 0);
@@ -106,7 +106,7 @@ fn faults() -> Vec<Case> {
 }
 
 /// Counts about the limit, with and without their events, and lengths about the count.
-fn counts() -> Vec<Case> {
+pub fn counts() -> Vec<Case> {
     let mut cases = Vec::new();
     for count in [0, 1, 255, 256, 16_383, 16_384, 16_385, 32_768, 65_535] {
         let bare = header(GOOD, count);
@@ -130,7 +130,7 @@ fn counts() -> Vec<Case> {
 }
 
 /// Inputs that are no file at all.
-fn no_files() -> Vec<Case> {
+pub fn no_files() -> Vec<Case> {
     let mut random = Random::new(2);
     let mut cases = vec![Case::new("none empty input", Vec::new())];
     for length in [1, 2, 3, 10, 11, 12, 14, 100, LARGEST_FILE, LARGEST_FILE + 1, 1_000_000] {

@@ -1,8 +1,9 @@
 //! Wrong grids: 01's shortcuts and misreadings of 02. Each runs in place of the grid and differs from
-//! it in one rule, and the generated cases must tell it from the grid.
+//! it in one rule, and the generated cases must tell it from the grid. `lines` has wrong conversions.
 
 pub mod accesses;
 pub mod figures;
+pub mod lines;
 pub mod moment;
 pub mod names;
 pub mod peak;
