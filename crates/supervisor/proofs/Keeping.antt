@@ -68,7 +68,8 @@ pub set-up-again : (before desk : Desk) (answer : Answer) → Kept before
     → leaves answer (memoryOf desk) ≡ setup board (memoryOf before) → desk .rows ≡ before .rows
     → desk .totals ≡ before .totals → Kept desk
 set-up-again before desk answer kept is same totals =
-    desk-kept desk _ (ap length same ∙ kept .long) (ap length totals ∙ kept .table) (ap (λ (outcome : Outcome). outcome .memory) is) (
+    desk-kept desk _ (ap length same ∙ kept .long) (ap length totals ∙ kept .table)
+    (ap (λ (outcome : Outcome). outcome .memory) is) (
       reached-promises .again board (memoryOf before) (kept .reached),
       rw same (notes-kept board .over-setup (memoryOf before) (before .rows) (kept .agree)),
     )

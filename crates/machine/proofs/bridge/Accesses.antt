@@ -4,7 +4,8 @@ use mathlib.Core.{Path.{_≡_, refl, sym, ap}, Bool.not}
 use Prim.Native.Nat.{ℕ, _+_}
 use Rattle.machine.specs.{Settings.own, Places.{blockNumber, block}, Grid.pointAccess}
 use Rattle.machine.specs.Turn.{access, opReads, opWrites, seen, left, shownBy}
-use Rattle.machine.specs.declared.{Settings.Settings, Direction.Direction, Kind.the-variants.Turn, State.the-variants.Seeking}
+use Rattle.machine.specs.declared.{Settings.Settings, Direction.Direction, Kind.the-variants.Turn}
+use Rattle.machine.specs.declared.State.the-variants.{Seeking}
 use Rattle.machine.specs.declared.Point.{Point, the-variants.{WriteX, Scan, WriteMark, ReadX, Clear}}
 use Rattle.machine.specs.declared.{Register.{Register, the-variants.{X, Mark}}, Op.{Op, the-variants.{Read, Write}}}
 use Rattle.machine.specs.declared.{Access.{Access, the-variants.Touch}, Letter.the-variants.{R, W}}

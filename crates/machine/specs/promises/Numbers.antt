@@ -1,6 +1,6 @@
 -- 01, "Memory that is lent", "Rules of the grid" and "Numbers of refusal", and 02, P1, P3 and P4: how many blocks and
 -- names there are, the number of each, what the tests of a state say, and the number of each refusal.
--- Theorems: `places-numbered`, `state-told`, `refusals-numbered`.
+-- Theorems: `places-numbered`, `built-at`, `state-told`, `refusals-numbered`.
 use mathlib.Core.{Path._≡_, Logic._↔_, List.{[], _∷_}}
 use Prim.Native.Nat.{ℕ, _+_, _-_, _*_, _/_, _≤_}
 use lib.Dec.{T}
@@ -31,6 +31,9 @@ pub record PlacesNumbered (s : Settings) : Type 0 where
   -- "Both rules number the places of the triangle 0 to k(k+1)/2-1, each exactly once"
   pub each-name-once : Numbering (s .k) (λ r c. placeName s (cell r c)) (s .k * (s .k + 1) / 2)
 
+abbrev pub EachNumbered : Type 0
+EachNumbered = (s : Settings) → PlacesNumbered s
+
 -- a stand and a cell have the row and the column by which they are built: the lines of the rules speak of them so
 pub record BuiltAt (r c : ℕ) (point : Point) : Type 0 where
   pub stand-row : block r c point .r ≡ r
@@ -41,9 +44,6 @@ pub record BuiltAt (r c : ℕ) (point : Point) : Type 0 where
 
 abbrev pub EachBuiltAt : Type 0
 EachBuiltAt = (r c : ℕ) (point : Point) → BuiltAt r c point
-
-abbrev pub EachNumbered : Type 0
-EachNumbered = (s : Settings) → PlacesNumbered s
 
 -- "A record is idle, or seeking", or holding: the three tests say which
 pub record StateTold (state : State) : Type 0 where
