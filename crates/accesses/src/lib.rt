@@ -1,6 +1,8 @@
 // The one register that a call of one task's record touches, and what an answer shows of it. Of
 // what is above this crate only the test program `memories` matches on points.
 
+#![tactic(auto)]
+
 ghost use Rattle.std.specs.Prelude.{◌≡◌, ◌+◌, ◌≤◌, T};
 ghost use Rattle.machine.specs.Settings.{permitted, own};
 ghost use Rattle.machine.specs.Places.{block_number};

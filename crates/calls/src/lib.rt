@@ -2,6 +2,8 @@
 // event. A call looks at the records, decides by `rules`, and puts back what was decided. It takes
 // any settings, any identifier, and rows of any length and contents.
 
+#![tactic(auto)]
+
 ghost use Rattle.demands.specs.{Calls.{call, setup, ask, turn, release}, Lent.{lent, leaves}};
 ghost use Rattle.std.specs.Prelude.{◌≡◌, replicate};
 ghost use Rattle.machine.specs.Records.{idle};
@@ -10,14 +12,14 @@ ghost use Rattle.calls.specs.Made.{outcome_of};
 use machine::{Answer, Event, Kind, Record, Settings, State, TaskId};
 
 // What is called: setup, or ask, turn or release of one task.
-#[derive(Drop)]
+#[derive(Clone, Copy)]
 pub enum Call {
     Setup,
     Of(Event),
 }
 
 // The records after a call that took them by value, and its answer.
-#[derive(Drop)]
+#[derive(Clone, Copy)]
 pub struct Made {
     pub records: [Record; 256],
     pub answer: Answer,

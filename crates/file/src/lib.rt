@@ -1,1 +1,3 @@
 // No function: the schedule file's definitions and promises are in `specs/`, their theorems in `proofs/`.
+
+#![tactic(auto)]

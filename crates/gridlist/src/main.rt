@@ -1,5 +1,7 @@
 // The program `gridlist`: prints the listing of the schedule file on standard input.
 
+#![tactic(auto)]
+
 ghost use Rattle.std.specs.Prelude.{◌≡◌, List, ℕ, ◌≤◌, ◌<◌, length, take};
 ghost use Rattle.file.specs.File.{most_events, file_length};
 ghost use Rattle.printed.specs.Listing.{listing};

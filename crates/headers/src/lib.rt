@@ -1,5 +1,7 @@
 // The header of a schedule file: its words, its settings, and the tests that it passes.
 
+#![tactic(auto)]
+
 ghost use Rattle.std.specs.Prelude.{◌≡◌, [], ◌+◌, ◌≤◌, length};
 ghost use Rattle.demands.specs.Refusals.{first};
 ghost use Rattle.file.specs.File.{word_at, letters_right, settings_of, header_cases};

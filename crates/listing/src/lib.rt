@@ -1,6 +1,8 @@
 // The listing of a schedule file: from the file's bytes to the bytes that `gridlist` prints of it,
 // in lent room.
 
+#![tactic(auto)]
+
 ghost use Rattle.std.specs.Prelude.{◌≡◌, ℕ, ◌+◌, ◌*◌, ◌≤◌, ◌<◌, max, length, get_or, replicate};
 ghost use Rattle.machine.specs.Records.{idle};
 ghost use Rattle.counting.specs.Counting.{tick};
@@ -17,7 +19,7 @@ use machine::{Event, Kind, Opening, Reading, Record, Refusal, Settings, TaskId, 
 use report::{put_end, put_event, put_grid, put_refused};
 
 // Where a run stands: the records, PEAK and MOST so far, and the index past the lines printed.
-#[derive(Drop)]
+#[derive(Clone, Copy)]
 struct Standing {
     records: [Record; 256],
     peak: u16,
@@ -26,7 +28,7 @@ struct Standing {
 }
 
 // Who is counted: the holders, or everyone out, seekers and holders together.
-#[derive(Drop)]
+#[derive(Clone, Copy)]
 enum Who {
     Holders,
     Out,

@@ -1,6 +1,8 @@
 // What a supervisor holds and is answered: the types of the grid, the numbers of the refusals, and the
 // one step of a task's record. Every definition that a contract cites is in `specs/`.
 
+#![tactic(auto)]
+
 ghost use Rattle.std.specs.Prelude.{◌≡◌, ◌+◌, ◌≤◌, ◌<◌, T};
 ghost use Rattle.machine.specs.RefusalNumbers.{number_of};
 ghost use Rattle.machine.specs.{Settings.{width, bound}, Places.block};
@@ -9,7 +11,7 @@ ghost use Rattle.machine.specs.{Grid.{arrive, move, leave, point_turned}, Turn.{
 
 // Mode 0 is one-time, mode 1 long-lived. There are n tasks, of which at most k are out at once. Names
 // are numbered by rows in version 1 and by diagonals in version 2.
-#[derive(Drop)]
+#[derive(Clone, Copy)]
 pub struct Settings {
     pub mode: u8,
     pub n: u16,
@@ -18,22 +20,22 @@ pub struct Settings {
 }
 
 // A task's identifier, 0 to N-1. It is no name.
-#[derive(Drop)]
+#[derive(Clone, Copy)]
 pub struct TaskId(pub u16);
 
 // A name, 0 to k(k+1)/2-1. It is no identifier.
-#[derive(Drop)]
+#[derive(Clone, Copy)]
 pub struct Name(pub u16);
 
 // Which way a clearing task goes.
-#[derive(Drop)]
+#[derive(Clone, Copy)]
 pub enum Direction {
     Right,
     Down,
 }
 
 // Where in its block a seeking task stands: the access that its next turn makes.
-#[derive(Drop)]
+#[derive(Clone, Copy)]
 pub enum Point {
     WriteX,
     Scan(u16),
@@ -43,7 +45,7 @@ pub enum Point {
 }
 
 // Where a seeking task stands: at a point of the block in row r and column c.
-#[derive(Drop)]
+#[derive(Clone, Copy)]
 pub struct Stand {
     pub r: u8,
     pub c: u8,
@@ -51,14 +53,14 @@ pub struct Stand {
 }
 
 // What a holding task holds: the cell in row r and column c.
-#[derive(Drop)]
+#[derive(Clone, Copy)]
 pub struct Place {
     pub r: u8,
     pub c: u8,
 }
 
 // A task is idle, seeks where it stands, or holds a place.
-#[derive(Drop)]
+#[derive(Clone, Copy)]
 pub enum State {
     Idle,
     Seeking(Stand),
@@ -67,35 +69,35 @@ pub enum State {
 
 // A task's record, as it stands in the lent row: where the task is, and the accepted turns that it has
 // used since its ask; 0 while it is idle.
-#[derive(Drop)]
+#[derive(Clone, Copy)]
 pub struct Record {
     pub state: State,
     pub turns: u32,
 }
 
 // A register: the X number of a block, or a mark, by its block and its place among the block's marks.
-#[derive(Drop)]
+#[derive(Clone, Copy)]
 pub enum Register {
     X { block: u16 },
     Mark { block: u16, place: u16 },
 }
 
 // What an access does with its register.
-#[derive(Drop)]
+#[derive(Clone, Copy)]
 pub enum Op {
     Read,
     Write(u32),
 }
 
 // The one register that a call touches, if any, and what it does with it.
-#[derive(Drop)]
+#[derive(Clone, Copy)]
 pub enum Access {
     NoAccess,
     Touch { register: Register, op: Op },
 }
 
 // How the probe on the register bus names an access: read or written.
-#[derive(Drop)]
+#[derive(Clone, Copy)]
 pub enum Letter {
     R,
     W,
@@ -103,7 +105,7 @@ pub enum Letter {
 
 // What an answer shows of the call's access: nothing where no register was touched, or the register
 // with the value read from it or written to it.
-#[derive(Drop)]
+#[derive(Clone, Copy)]
 pub enum Shown {
     Nothing,
     Touched {
@@ -114,7 +116,7 @@ pub enum Shown {
 }
 
 // What a task is called with.
-#[derive(Drop)]
+#[derive(Clone, Copy)]
 pub enum Kind {
     Ask,
     Turn,
@@ -122,14 +124,14 @@ pub enum Kind {
 }
 
 // A call of one task: an event of a schedule.
-#[derive(Drop)]
+#[derive(Clone, Copy)]
 pub struct Event {
     pub kind: Kind,
     pub task: TaskId,
 }
 
 // A lent row.
-#[derive(Drop)]
+#[derive(Clone, Copy)]
 pub enum Row {
     Records,
     Xs,
@@ -139,7 +141,7 @@ pub enum Row {
 // Why a call is refused, in the order of the tests. Their numbers are 1 to 18 without 6, which is
 // retired: 15 to 17 stand at its place, and tell what the task was at when the moment was wrong. 18
 // is setup's alone, after 2.
-#[derive(Drop)]
+#[derive(Clone, Copy)]
 pub enum Refusal {
     Limits,
     ShortRow,
@@ -162,7 +164,7 @@ pub enum Refusal {
 
 // What a call sees of the row of records: its length, the index of the first of the N records that
 // is out of range (N where none is), how many of them are out, and the task's own.
-#[derive(Drop)]
+#[derive(Clone, Copy)]
 pub struct View {
     pub length: usize,
     pub bad: usize,
@@ -171,14 +173,14 @@ pub struct View {
 }
 
 // What a call's tests say.
-#[derive(Drop)]
+#[derive(Clone, Copy)]
 pub enum Verdict {
     Accepted,
     Refused(Refusal),
 }
 
 // What setup, ask, turn and release tell.
-#[derive(Drop)]
+#[derive(Clone, Copy)]
 pub enum Told {
     Done,
     Seeks,
@@ -188,28 +190,28 @@ pub enum Told {
 }
 
 // What they answer: what they tell and, of an accepted turn or release, the access that it made.
-#[derive(Drop)]
+#[derive(Clone, Copy)]
 pub struct Answer {
     pub told: Told,
     pub shown: Shown,
 }
 
 // What opening a schedule file answers: its settings and its count of events.
-#[derive(Drop)]
+#[derive(Clone, Copy)]
 pub enum Opening {
     Opened { settings: Settings, count: u16 },
     Refused(Refusal),
 }
 
 // What a reader answers when asked for its next event.
-#[derive(Drop)]
+#[derive(Clone, Copy)]
 pub enum Reading {
     Given(Event),
     Refused(Refusal),
 }
 
 // What writing a schedule file answers: how many bytes it wrote.
-#[derive(Drop)]
+#[derive(Clone, Copy)]
 pub enum Writing {
     Wrote(usize),
     Refused(Refusal),

@@ -2,6 +2,8 @@
 // task, and the rows to lend: up to 256 records, 128 X numbers and 30,740 marks, of any contents. Each
 // call is made on just these rows, and the answer and every lent element afterwards are printed.
 
+#![tactic(auto)]
+
 use calls::{Call, Made};
 use libc::{STDIN_FILENO, STDOUT_FILENO};
 use machine::{

@@ -1,6 +1,8 @@
 // Numbers of the grid: the limits of the settings, the counts of blocks, names and marks, and the
 // numbers of places. The formula of the triangle by rows is said once, in `place_number`.
 
+#![tactic(auto)]
+
 ghost use Rattle.std.specs.Prelude.{◌≡◌, ◌+◌, ◌-◌, ◌≤◌, ◌<◌, T};
 ghost use Rattle.machine.specs.Settings.{known_version, permitted, width, own};
 ghost use Rattle.grid.specs.Triangle.{half, place_number, diagonal_number};

@@ -1,1 +1,3 @@
 // No function: the listing's definition and promises are in `specs/`, their theorems in `proofs/`.
+
+#![tactic(auto)]

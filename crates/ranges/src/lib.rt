@@ -1,6 +1,8 @@
 // What every call tests of each record in the row: whether it is in range, and whether its task is
 // out.
 
+#![tactic(auto)]
+
 ghost use Rattle.std.specs.Prelude.{◌≡◌};
 ghost use Rattle.machine.specs.Records.{point_in_range, stand_in_range, place_in_range, state_in_range};
 ghost use Rattle.machine.specs.Records.{turns_in_range, record_in_range, is_out};

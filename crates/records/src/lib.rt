@@ -1,6 +1,8 @@
 // One task's record, by value: where the task stands, which register its next call touches, the
 // record after the call, and what the call tells.
 
+#![tactic(auto)]
+
 ghost use Rattle.std.specs.Prelude.{◌≡◌, T};
 ghost use Rattle.machine.specs.Settings.{permitted};
 ghost use Rattle.machine.specs.Records.{state_in_range, record_in_range, is_idle, is_seeking, is_holding};

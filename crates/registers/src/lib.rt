@@ -1,6 +1,8 @@
 // The rows of registers: X numbers and marks. The first value out of range of each, the one access of
 // a call, and the clearing of a setup.
 
+#![tactic(auto)]
+
 ghost use Rattle.std.specs.Prelude.{◌≡◌, ℕ, ◌≤◌, ◌<◌, T, length, get_or};
 ghost use Rattle.machine.specs.Settings.{permitted};
 ghost use Rattle.machine.specs.Places.{blocks};

@@ -1,6 +1,8 @@
 // The lines of a listing, each written into lent room: the first, one of an event, the last, and the
 // one of a file that does not open.
 
+#![tactic(auto)]
+
 ghost use Rattle.std.specs.Prelude.{◌≡◌, ◌++◌, ◌+◌, ◌≤◌, length};
 ghost use Rattle.machine.specs.RefusalNumbers.{number_of};
 ghost use Rattle.text.specs.Decimal.{decimal, space, line_feed};

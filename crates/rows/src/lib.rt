@@ -2,6 +2,8 @@
 // pass, and what a call sees. Each has the row among its locals, so each is walked by hand; what is
 // decided of a record is decided by value.
 
+#![tactic(auto)]
+
 ghost use Rattle.std.specs.Prelude.{◌≡◌, ◌<◌, ◌^◌, length, get_or, set};
 ghost use Rattle.machine.specs.Records.{idle, is_out, record_in_range};
 ghost use Rattle.counting.specs.Counting.{tick, first_or};
@@ -13,7 +15,7 @@ use ranges::{in_range, is_out};
 
 // What a pass has seen of the records before some index: the first out of range, that index where
 // none is, and how many are out.
-#[derive(Drop)]
+#[derive(Clone, Copy)]
 struct Seen {
     bad: usize,
     out: usize,

@@ -1,6 +1,8 @@
 // What a call decides: given the settings, what it sees of the row of records, and the rows of X
 // numbers and marks, the refusal, or the one access, the answer and the task's next record.
 
+#![tactic(auto)]
+
 ghost use Rattle.std.specs.Prelude.{◌≡◌, false, [], T};
 ghost use Rattle.machine.specs.Settings.{permitted};
 ghost use Rattle.demands.specs.Refusals.{first, row_short, setup_verdict, lent_cases, range_cases, task_cases};
@@ -14,7 +16,7 @@ use machine::{
 };
 
 // The answer of a call, and the task's record to put back.
-#[derive(Drop)]
+#[derive(Clone, Copy)]
 pub struct Decided {
     pub answer: Answer,
     pub own: Record,

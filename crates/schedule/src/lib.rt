@@ -1,6 +1,8 @@
 // The schedule file: opening one, the event at a position, and writing one. Each function takes any
 // bytes of any length, and answers what `specs/File.antt` of `file` says.
 
+#![tactic(auto)]
+
 ghost use Rattle.std.specs.Prelude.{◌≡◌, ◌≤◌, length};
 ghost use Rattle.counting.specs.Counting.{any_below};
 ghost use Rattle.file.specs.File.{file_length, code_bad, opening, kind_of, reading, writing, written_of};
@@ -12,7 +14,7 @@ use machine::{Event, Kind, Opening, Reading, Refusal, Settings, TaskId, Verdict,
 use writer::{bad_number, put_events, put_header};
 
 // What a reader answers, with its position afterwards.
-#[derive(Drop)]
+#[derive(Clone, Copy)]
 pub struct Next {
     pub answer: Reading,
     pub at: usize,

@@ -1,6 +1,8 @@
 // Both sides of the schedule file's edges, as the library answers them: opening, reading and writing.
 // An answer is printed by its number, 0 where it is accepted, and the values beside it.
 
+#![tactic(auto)]
+
 ghost use Rattle.std.specs.Prelude.{◌<◌};
 
 use libc::STDOUT_FILENO;

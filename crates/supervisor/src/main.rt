@@ -3,6 +3,8 @@
 // call on a line. Every step keeps `Kept`; that no two channels have one row follows from it and is in
 // the contract of `run`, and that an interrupt changes no other channel's row in that of `interrupt`.
 
+#![tactic(auto)]
+
 ghost use Rattle.std.specs.Prelude.{◌≡◌, ◌+◌, ◌-◌, ◌≤◌, ◌<◌};
 ghost use Rattle.demands.specs.promises.Notes.{noted};
 ghost use Rattle.supervisor.specs.Desk.{board, Kept, RowsApart, OthersKeep, Served};
@@ -105,7 +107,7 @@ fn tell_energy(channel: u16, row: u32) {
 
 // What becomes of a total: it is cleared for a new holder, or raised by an energy, at most to the
 // largest value.
-#[derive(Drop)]
+#[derive(Clone, Copy)]
 enum Change {
     Clear,
     Raise(u8),

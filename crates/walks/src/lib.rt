@@ -1,1 +1,3 @@
 // No function: what every walk over lent records shares is in `proofs/`.
+
+#![tactic(auto)]

@@ -1,5 +1,7 @@
 // The bytes of a schedule, put into lent room: the header, and the events after it.
 
+#![tactic(auto)]
+
 ghost use Rattle.std.specs.Prelude.{◌≡◌, false, ◌+◌, ◌≤◌, length};
 ghost use Rattle.counting.specs.Counting.{any_below};
 ghost use Rattle.file.specs.File.{file_length, word_bytes, header_bytes, code_in, event_bytes, events_bytes, number_bad};

@@ -1,4 +1,4 @@
--- J1, what a mark says: in both modes, that a task past its write mark has its mark set; long_lived, that a mark which
+-- J1, what a mark says: in both modes, that a task past its write mark has its mark set; long-lived, that a mark which
 -- is set is of a task that stands there past its write mark.
 use mathlib.Core.Path.{◌≡◌, sym, ◌∙◌}
 use Prim.Native.Nat.{ℕ, ◌+◌, ◌≤◌, ◌<◌}
@@ -26,7 +26,7 @@ module _ (R : Rules) where
   abbrev pub MarkSet : Grid → Type 0
   MarkSet v = (r c q : ℕ) → q < R.n → r + c + 2 ≤ R.k → Marks R.width (v.stand q) r c → v.mark r c (R.own q) ≡ 1
 
-  -- J1, long_lived. For J2: whoever a mark belongs to stays behind. Broken only by leaving a block without clearing.
+  -- J1, long-lived. For J2: whoever a mark belongs to stays behind. Broken only by leaving a block without clearing.
   abbrev pub MarkOwned : Grid → Type 0
   MarkOwned v = (r c q : ℕ) → q < R.n → r + c + 2 ≤ R.k → v.mark r c (R.own q) ≡ 1
       → Marks R.width (v.stand q) r c
@@ -83,7 +83,7 @@ module _ (R : Rules) where
     mover_owned one (frees o l₁) e r c l old t = let z = cleared r c e t in let y = old z.0 in z.1 y.0 y.1
     mover_owned one (departs o l₁) e r c l old t = let z = old (sym (e r c _) ∙ t) in omega arith
 
-    -- another's mark that is set stays set: long_lived nobody writes it, one-time nobody clears
+    -- another's mark that is set stays set: long-lived nobody writes it, one-time nobody clears
     mark_stays : {a b : Stand} {e : Effect} → Move R p u a e b → MarkChange e (R.own p) u v → (r c q : ℕ) → (q ≡ p → ⊥)
         → u.mark r c (R.own q) ≡ 1 → v.mark r c (R.own q) ≡ 1
     mark_stays (asks _) e r c q d h = e r c _ ∙ h
@@ -102,7 +102,7 @@ module _ (R : Rules) where
     mark_stays (frees o _) e r c q d h = e.there r c _ (λ _ _ f. d (R.own_apart o q p f)) ∙ h
     mark_stays (departs _ _) e r c q d h = e r c _ ∙ h
 
-  -- ---- both modes, and long_lived
+  -- ---- both modes, and long-lived
 
   pub mark_set_kept : (u v : Grid) → Step R u v → MarkSet u → MarkSet v
   mark_set_kept u v s old r c q l b t = go (ℕ_discrete q s.p)

@@ -17,7 +17,7 @@ abbrev pub Goes : ℕ → ℕ → ℕ → Way → Stand → Type 0
 Goes k r c right to = Arrives k r (c + 1) to
 Goes k r c down to = Arrives k (r + 1) c to
 
--- out of a block: at once one-time, by way of the clear long_lived
+-- out of a block: at once one-time, by way of the clear long-lived
 pub data Leaves (R : Rules) (r c : ℕ) (d : Way) : Stand → Type 0 where
   at_once : {to : Stand} → R.mode ≡ 0 → Goes R.k r c d to → Leaves R r c d to
   clearing : R.mode ≡ 1 → Leaves R r c d (at r c (going d))

@@ -8,7 +8,7 @@ use Rattle.grid.proofs.Stands.{InPlace, own_x, unless_least, row_reach, column_r
 use Rattle.grid.proofs.Moves.{Arrives, block, edge, Goes, Leaves, at_once, clearing, Effect, Move, asks, begins}
 use Rattle.grid.proofs.Moves.{passes, meets, marks, wins, loses, clears, frees, departs}
 
--- the turns that a block costs a task which does not stay: write X, the scan, write mark, read X, and long_lived the
+-- the turns that a block costs a task which does not stay: write X, the scan, write mark, read X, and long-lived the
 -- clear
 abbrev pub cost : Rules → ℕ
 cost R = R.width + 3 + R.mode
