@@ -1,3 +1,2 @@
--- What the walks of this crate share.
+-- A pass over the records, one record after the other.
 pub mod Passed
-pub mod Functions
