@@ -5,11 +5,15 @@
 #![tactic(auto)]
 
 use calls::{Call, Made};
-use libc::{STDIN_FILENO, STDOUT_FILENO};
 use machine::{
     Answer, Direction, Event, Kind, Letter, Place, Point, Record, Refusal, Register, Row, Settings,
     Shown, Stand, State, TaskId, Told,
 };
+
+// The numbers of standard input and output.
+const STDIN_FILENO: i32 = 0;
+
+const STDOUT_FILENO: i32 = 1;
 
 // A case but for its rows: what is called (0 ask, 1 turn, 2 release, 3 setup), the settings, the task,
 // and how many records are lent.
@@ -33,7 +37,7 @@ fn byte(input: &[u8], at: usize) -> u8 {
 
 // An input has at most 65,536 bytes, so no position wraps.
 fn past(at: usize, bytes: usize) -> usize {
-    std::num::wrapping_add_usize(at, bytes)
+    at.wrapping_add(bytes)
 }
 
 fn word(input: &[u8], at: usize) -> u16 {

@@ -5,8 +5,10 @@
 
 ghost use Rattle.std.specs.Prelude.{◌<◌};
 
-use libc::STDOUT_FILENO;
 use machine::{Event, Kind, Opening, Reading, Refusal, Settings, Writing};
+
+// The number of standard output.
+const STDOUT_FILENO: i32 = 1;
 
 // The number of a refusal.
 fn number(why: Refusal) -> u64 {

@@ -10,8 +10,10 @@ ghost use Rattle.demands.specs.promises.Notes.{noted};
 ghost use Rattle.supervisor.specs.Desk.{board, Kept, RowsApart, OthersKeep, Served};
 
 use calls::{idle_records, setup_of, step_of};
-use libc::STDOUT_FILENO;
 use machine::{Event, Kind, Name, Record, Refusal, Settings, TaskId, Told};
+
+// The number of standard output.
+const STDOUT_FILENO: i32 = 1;
 
 // What the supervisor keeps, by value: the memory that it lends to the calls, for each channel the row
 // that it has (its number and one more, 0 for none), the table, a total for each name, and what was
