@@ -5,7 +5,7 @@
   definitions at its head and the lemma that two outcomes are equal: two premises of the lemma have the same definitions at their heads;
 - no public function of an entry crate (calls, schedule, listing) has a `requires`;
 - every must-fail edit that is named exists, and every edit is named in docs/CONTRACTS.md or docs/MUST_FAIL.md;
-- docs/WALKS.md has a row for every function that is walked by hand, with the length of its proof;
+- docs/WALKS.md has a row for every function that is walked by hand, with the length of its proof: today it has none;
 - every name on docs/CLAIM.md, of a file, a function, a statement or an edit, is in the crates.
 Last line: 'N passed, M failed'."""
 import glob
@@ -18,10 +18,10 @@ CRATES = os.path.join(ROOT, 'crates')
 ENTRIES = ('calls', 'schedule', 'listing')
 SIGNATURE = re.compile(r'\bpub\s+(?:extern\s+"C"\s+)?fn\s+(\w+)')
 IMPL = re.compile(r'^impl(?:<[^>]*>)?\s+(\w+)', re.M)
-ENSURES = re.compile(r'ensures \{ λ (\w+)\. ⌜ (.*?) ⌝ \}', re.S)
+ENSURES = re.compile(r'\bensures\*?(?: \w+)? \{')
 LENT = re.compile(r"(\w+): &(?:'\w+ )?mut\b|&(?:'\w+ )?mut (self)\b")
 LEMMA = re.compile(r'^pub (\S+) : (.*?)(?=^\S)', re.M | re.S)
-WALKED = re.compile(r'^use Rattle·\w+·proofs\.proofs\.[\w.]+\.Code as ', re.M)
+WALKED = re.compile(r'^use Rattle\.\w+\.proofs\.[\w.]+\.Code as ', re.M)
 
 
 def read(*path):
@@ -44,6 +44,16 @@ def functions(path, crate):
         yield '::'.join(filter(None, [crate, owner, m.group(1)])), head
 
 
+def ensured(head):
+    """The fact of each `ensures`, as far as its brace goes."""
+    for m in ENSURES.finditer(head):
+        depth, end = 1, m.end()
+        while depth:
+            depth += {'{': 1, '}': -1}.get(head[end], 0)
+            end += 1
+        yield ' '.join(head[m.end():end - 1].split())
+
+
 def rows(text):
     """The cells of each row whose first cell is a function."""
     for line in text.split('\n'):
@@ -57,7 +67,7 @@ def lemmas(crate):
     """The public lemmas, of no one function, of a crate and of those that it is built on, each with its type."""
     below = re.search(rf'^{crate}:(.*)', read('crates.txt'), re.M).group(1).split()
     paths = [path for c in [crate, *below] for path in glob.glob(os.path.join(CRATES, c, 'proofs', '**', '*.antt'), recursive=True)
-             if not path.endswith('Proof.antt')]
+             if not path.endswith(('Proof.antt', 'Answers.antt', 'Invariants.antt'))]
     return {f'`{name}`': told for path in paths for name, told in LEMMA.findall(read(path))}
 
 
@@ -78,15 +88,15 @@ def heads(fact):
 
 def determined(check, name, head, row):
     """One function's `ensures` against its row: the definitions that it cites, and the lemma that two outcomes are equal."""
-    clauses = ENSURES.findall(head)
-    result, fact = clauses[0] if len(clauses) == 1 else ('', '')
+    clauses = list(ensured(head))
+    fact = clauses[0] if len(clauses) == 1 else ''
     left, *right = fact.split(' ≡ ')
     single = fact and len(right) < 2 and not re.search('[→×⊎∃λ]', fact)
     check(single, f'{name}: its ensures is not one equation or one record')
     if not single:
         return
     signature = re.split('requires|ensures', head)[0]
-    outcome = [result] * ('->' in signature) + [f'now ({a or b} .exit)' for a, b in LENT.findall(signature)]
+    outcome = ['result'] * ('->' in signature) + [f'{a or b}.new' for a, b in LENT.findall(signature)]
     for part in outcome:
         check(says(left, part) and not says(''.join(right), part), f'{name}: its ensures does not say what {part} is')
     plain = bool(right) and outcome == [left]
@@ -117,7 +127,7 @@ def contracts(check):
             found[name] = head
     cells = dict(rows(read('docs', 'CONTRACTS.md')))
     table = {name: re.findall(r'`([\w]+/[\w]+)`', row[-1]) for name, row in cells.items()}
-    check('`equation-determines`' in lemmas('machine'), 'machine has no lemma equation-determines')
+    check('`equation_determines`' in lemmas('machine'), 'machine has no lemma equation_determines')
     for name, head in sorted(found.items()):
         check('ensures' in head, f'{name} has no ensures')
         check(name in table, f'{name} has no row in docs/CONTRACTS.md')

@@ -6,8 +6,8 @@ ghost use Rattle.std.specs.Prelude.{◌≡◌, List, ℕ, ◌≤◌, ◌<◌, le
 ghost use Rattle.file.specs.File.{most_events, file_length};
 ghost use Rattle.printed.specs.Listing.{listing};
 
-use libc::{STDERR_FILENO, STDIN_FILENO, STDOUT_FILENO};
 use machine::Writing;
+use std::io::{Read, Write};
 
 // How the reading of standard input ended: with so many bytes read, or with a read that failed.
 #[derive(Drop)]
@@ -17,14 +17,12 @@ enum Input {
 }
 
 // Reads standard input to its end, or as far as the buffer holds.
-fn read_input(input: &mut [u8]) -> Input {
+fn read_input(mut from: impl Read + Drop, input: &mut [u8]) -> Input {
     let mut n = 0;
     while n < input.len() {
-        let got = libc::read(STDIN_FILENO, &mut input[n..]);
-        if got < 0 {
+        let Ok(more) = from.read(&mut input[n..]) else {
             return Input::Failed;
-        }
-        let more = io::count(got, &input[n..]);
+        };
         if more == 0 {
             return Input::Read(n);
         }
@@ -66,18 +64,19 @@ fn listing_of<'a>(input: &[u8], n: usize, room: &'a mut [u8]) -> &'a mut [u8]
     &mut room[..length]
 }
 
-fn main() {
-    let mut input = io::large_buffer();
-    let Input::Read(n) = read_input(&mut input) else {
-        io::write_all(STDERR_FILENO, b"gridlist: standard input cannot be read\n");
+fn main(rt: HostRuntime) {
+    let mut input = [0u8; 65536];
+    let Input::Read(n) = read_input(rt.stdin(), &mut input) else {
+        let _ = rt
+            .stderr()
+            .write_all(b"gridlist: standard input cannot be read\n");
         return;
     };
     let mut room = longest();
     let text = listing_of(&input, n, &mut room);
-    if !io::write_all(STDOUT_FILENO, text) {
-        io::write_all(
-            STDERR_FILENO,
-            b"gridlist: standard output cannot be written\n",
-        );
+    if rt.stdout().write_all(text).is_err() {
+        let _ = rt
+            .stderr()
+            .write_all(b"gridlist: standard output cannot be written\n");
     }
 }
