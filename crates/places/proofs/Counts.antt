@@ -9,7 +9,7 @@ use Rattle.machine.specs.declared.Settings.{Settings}
 use Rattle.machine.proofs.refusals.Limits.{width_most}
 use Rattle.demands.proofs.calls.Cells.{earlier_block}
 use Rattle.machine.specs.promises.Ranges.{WithinLimits}
-use Rattle.grid.{specs.Triangle.{half, place_number, diagonal_number}, proofs.Triangle.{half_most, diagonals}}
+use Rattle.grid.{specs.Triangle.{place_number, diagonal_number}, proofs.Triangle.{half_most, diagonals}}
 
 -- products of the grid's numbers fit, also with one more such number added
 module _ (a b : ℕ) (small_a : a ≤ 256) (small_b : b ≤ 256) where
