@@ -16,7 +16,6 @@ use Rattle.demands.proofs.{refusals.{Lines.tasks_out_lem, Passing.{passed, by_th
 use Rattle.demands.proofs.calls.Effects.{only_the_register_written_changes}
 use Rattle.demands.proofs.bridge.Histories.{run_keeps, run_append, history_append, call_few}
 use Rattle.demands.proofs.histories.{Served.turns_append, Demand3.{served_within, each_turns_told, setup_takes}}
-use Rattle.machine.specs.Places.{cell}
 use Rattle.machine.specs.declared.{Settings.Settings, Name.Name, State.{State, TheVariants.{Idle, Seeking, Holding}}}
 use Rattle.machine.specs.declared.{Kind.{Kind, TheVariants.{Ask, Turn, Release}}, Event.Event, Told.Told}
 use Rattle.machine.specs.declared.Answer.{Answer}

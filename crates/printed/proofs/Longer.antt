@@ -4,7 +4,7 @@ use mathlib.Core.{Path.{◌≡◌, refl, sym, ap, ◌∙◌}, Bool.{Bool, true, 
 use Prim.Native.Nat.{ℕ, ◌≤◌, ◌<◌}
 use native.Mathlib.Omega.{arith}
 use lib.{Dec.{eqb, ltb}, ListN.{length, take}, Seq.{get_or-take, length-take-le, take_all}}
-use borrow.Author.{Needs.needs, Tests.{le-ltb, ltb-true, ltb-false, ne_eqb}}
+use borrow.Author.{Rules.rules, Tests.{le-ltb, ltb-true, ltb-false, ne_eqb}}
 use Rattle.machine.specs.{Settings.known_version, RefusalNumbers.number_of}
 use Rattle.demands.specs.Refusals.{Case, when, first, outside_limits}
 use Rattle.machine.specs.declared.Refusal.{Refusal}
@@ -59,7 +59,7 @@ why_same : (whole : List ℕ) (most : ℕ) → file_length most_events < most �
 why_same whole most long =
     let same : (i : ℕ) → i < 11 → byte_at (take most whole) i ≡ byte_at whole i =
     λ i l. get_or-take most whole i 0 (omega arith) in
-    search (needs, same)
+    search (rules, same)
 
 -- as much of the input as such a buffer holds has the listing of the whole
 pub part_listed : (whole : List ℕ) (most : ℕ) → file_length most_events < most → listing (take most whole) ≡ listing whole

@@ -7,7 +7,7 @@ use mathlib.Core.{Path.◌≡◌, Logic.◌⊎◌, List.{List, [], ◌∷◌, �
 use Rattle.std.specs.Prelude.{ℕ, ◌+◌, ◌≤◌, ◌<◌, T}
 use Rattle.machine.specs.Places.{name_number}
 use Rattle.demands.specs.{Memory.{Memory, largest}, Answers.{said, isAccepted, plain}}
-use Rattle.demands.specs.{Calls.{call, setup, ask, turn, release}, History.{Answered, turns}}
+use Rattle.demands.specs.{Calls.{call, setup, ask, release}, History.{Answered, turns}}
 use Rattle.demands.specs.promises.Refusing.{NoneHolds, lent_lines, range_lines}
 use Rattle.demands.specs.promises.Demands.{SetUp, memory_after, history_of, used}
 use Rattle.machine.specs.Settings.{bound}

@@ -1,0 +1,5 @@
+-- The number falls at each call.
+use Rattle.text.proofs.+number.Given as goal
+
+abbrev pub decreases-number : goal.decreases-number
+decreases-number l = l.n
