@@ -10,6 +10,8 @@ overflow_add-result c =
     let s = c.args.s in
     let self = c.args.self in
     let within = and_r (state_in_range s self.state) (turns_in_range s self.state self.turns) c.requires in
-    omega
-    (arith, seeks_below s self.state c.in-Seeking.stand self.turns within c.in-Seeking.is,
-    bound_few s (search rules) (search rules))
+    omega (
+      arith,
+      seeks_below s self.state c.in-Seeking.stand self.turns within c.in-Seeking.is,
+      bound_few s (search rules) (search rules),
+    )
