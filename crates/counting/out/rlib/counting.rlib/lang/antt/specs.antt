@@ -1,3 +1,0 @@
-pub mod Counting
--- What is promised of them.
-pub mod Counted
