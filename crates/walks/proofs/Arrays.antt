@@ -1,15 +1,16 @@
 -- A local array that is lent as a `&mut [T]` for a call, and comes back at the list that the callee left. While it is
--- lent its place among the locals is empty: what is lent, and what the lender holds, stand in front. lends_array,
--- array_back      the way out, and back as_field                     an array of structs as the field of another struct
--- asks it Assumes `Logic`.
+-- lent its place among the locals is empty: what is lent, and what the lender holds, stand in front. `lends_array` is
+-- the way out and `array_back` the way back; `as_field` is for an array of structs as a field of another struct.
+-- Assumes `Logic`.
 use denote.Slice.{mut_slice_vals}
 use denote.Ref.{MutBor}
 use mathlib.Core.{Path.{◌≡◌, refl, sym, ap, ◌∙◌, subst}, List.{List, [], ◌∷◌, map}}
 use Prim.Native.Nat.{ℕ}
 use lib.ListN.{length, length-map}
-use seplogic.Ra.{Ura.Ura, TreeShare.full_share}
+use seplogic.Ra.Ura.{Ura}
+use base.Fraction.{full_share}
 use mir.{Syntax.{Lifetime, Place, Body, ty_array}, Val.Val}
-use base.{Logic.{ent, sep, emp, guard, via, mono_r, emp∗, snd∗}, Fml.{GName, ftrue, fsep, fat, flft, flent}}
+use base.{Logic.{ent, sep, emp, guard, via, mono_r, emp∗, snd∗}, Fml.{Fml, GName, ftrue, fsep, fat, flft, flent}}
 use prog.Wp.{Calls, Loops, Env, spot_of}
 use types.Logic.{Logic, sem}
 use types.Kit.{Item, ‵, ◌⊛◌, some, given, later, ⋆, nth, del, put, pull, fill, push, pop, mean, Post, Goal, runs}
@@ -18,9 +19,9 @@ use types.Kit.{check, fsplit, fjoin, fpick, fpack}
 use types.{SemTy.{Arr, cells}, Share.arr_parts, Tokens.{lft_new, lft_end}}
 use denote.{Array.{Array, each, array_val}, ArrayMemory.{Single, Array-apart, Array-whole}}
 use denote.{Index.{row, whole_in, whole_out}, Laws.{Is, shows}, Lend.{Held, lends_slice, slice_back}}
-use denote.{Memory.{cell_at, lone, part_at, part_of, mem, shares}, RattleType.RattleType, Ref.RefT, Shadow.shadow}
+use denote.{Memory.{cell_at, lone, part_at, part_of, mem, shares}, RattleType.RattleType, Shadow.shadow}
 use denote.Struct.{Declared.Declared, Laws.{Laws, tuple_val}, Steps.spelt}
-use denote.{Slice.{MutSlice, Room, slice-vals, finally}, Steps.{owned, peeks}}
+use denote.{Slice.{MutSlice, Room, finally}, Steps.{owned, peeks}}
 use Rattle.walks.proofs.{Data.{Data, Real, array}, Statements.{at, entry}}
 use denote.Struct.Declared as Struct
 use denote.Struct.Laws as StructLaws
@@ -108,15 +109,16 @@ module _ {M : Type 1} {𝓤 : Ura M} {𝓛 : Logic 𝓤} {K : Type 0} {Γ : List
       (lends_slice 𝓛 R ℓ (ν ∷ []) ys (spot_of 𝓤 H E k).1 0 room) $ await t tt $ pick t
       (λ δ. split t $ move t (2 ∷ 0 ∷ 1 ∷ []) $ s ν δ))
 
-  -- after the call, before its result is stored
-  pub array_back : K → {ν m : ℕ} (δ : GName) (zs : List R.Denot) → m ≡ n → {d : Place} {v : Val}
+  -- after the call, before its result is stored: the last list, beside what else the callee left of the slice
+  pub array_back : K → {ν m : ℕ} {B : Fml} (δ : GName) (zs : List R.Denot) → m ≡ n → {d : Place} {v : Val}
       → (Real (array D n) zs → Seq K 𝓛 (put 𝓛 (at 𝓛 Γ E k)
       (‵ (fat full_share (ty_array (lone R.mir) n) (spot_of 𝓤 H E k).1 0 ((array D n).val zs))) Γ)
       (lands C Λ E d v b q))
-      → Seq K 𝓛 (‵ (flft (ν ∷ []) full_share) ∷ ‵ (finally R δ zs) ∷ ‵
+      → Seq K 𝓛 (‵ (flft (ν ∷ []) full_share) ∷ ‵ (fsep (finally R δ zs) B) ∷ ‵
       (flent (ν ∷ []) (Held R m (spot_of 𝓤 H E k).1 0 δ)) ∷ Γ) (lands C Λ E d v b q)
   array_back t {ν} {m} δ zs long s =
-      lft_end t tt $ move t (0 ∷ 2 ∷ 1 ∷ []) $ use3 𝓛 (later (‵ ((Arr (mem R) m).own_at zs (spot_of 𝓤 H E k).1 0)))
+      lft_end t tt $ move t (1 ∷ []) $ fsplit t $ move t (1 ∷ []) $ drop t $ move t (1 ∷ 2 ∷ 0 ∷ []) $
+      use3 𝓛 (later (‵ ((Arr (mem R) m).own_at zs (spot_of 𝓤 H E k).1 0)))
       (slice_back 𝓛 R (ν ∷ []) δ zs m (spot_of 𝓤 H E k).1 0) $ await t tt $
       rewrite t 0 (λ (l : ℕ). ‵ ((Arr (mem R) l).own_at zs (spot_of 𝓤 H E k).1 0)) long refl $
       use1 𝓛 (given (Real (array D n) zs) (‵
@@ -133,7 +135,7 @@ module _ (T : Declared) (L : Laws T) (n : ℕ) where
       each_val [] = refl
       each_val (z ∷ zs) = ap (λ (us : List Val). StructLaws.val T L z ∷ us) (each_val zs)
 
-  each_field : (ys : List T.D) (us : List Val) → shadow (each T.D (Struct.row T).own ys us)
+  each_field : (ys : List T.D) (us : List Val) → shadow (each T.D (Struct.row T).own_val ys us)
       → shadow (each (Struct.field T).row.Denot (Struct.field T).row.own_val (map T.to ys) us)
   each_field [] [] s = s
   each_field [] (u ∷ us) s = absurd s

@@ -5,9 +5,9 @@
 use mathlib.Core.{Path.{◌≡◌, refl, sym, subst}, List.{List, [], ◌∷◌, ◌++◌}}
 use lib.ListN.{length, drop as dropped}
 use seplogic.Ra.Ura.{Ura}
-use mir.{Syntax.{Name, Place, Opd as Operand, Body, seq, call}, Val.Val}
+use mir.{Syntax.{Callee, Place, Opd as Operand, Body, seq, call}, Val.Val}
 use base.Logic.{ent, sep, emp, guard, via, id⊢}
-use prog.{Model.Model, Routine.{Routine, Env}, Wp.{Heap, Env as Blocks, Calls, Loops, eval_opds}}
+use prog.{Model.Model, Routine.{Routine, Env}, Wp.{Env as Blocks, Calls, Loops, eval_opds}}
 use types.Logic.{Logic}
 use sound.WpLaws.{FmC, fm_of}
 use contract.{Lifetimes.{Lfts, Shares, AllOutlive}, Monad.{fact, fact_i, fact_use}}
@@ -104,7 +104,7 @@ module _ {T : Ended} (F : Function T) {M : Type 1} {𝓤 : Ura M} (𝓛 : Logic 
 
     module _ (asks : ent 𝓤 (emp 𝓤) ((c κs a).requires g))
         (fs : Facts κs T.signature.params T.kept F.params a) {routine : Routine}
-        (met : Meets 𝓛 T.signature (𝓡.run routine) (closing 𝓛 T c)) (env : Env) (key : Name)
+        (met : Meets 𝓛 T.signature (𝓡.run routine) (closing 𝓛 T c)) (env : Env) (key : Callee)
         (means : env key ≡ routine) where
       goes : (Γ : List (Item 𝓤)) → Γ ≡ brought F κs a 𝓤 qs ++ others Γ
           → ent 𝓤 (⋆ 𝓛 Γ) (sep 𝓤 ((tables 𝓤 H 𝓜 𝓡 env).C key (values F κs a) (Promise.post to))

@@ -5,11 +5,14 @@ use Prim.Native.Nat.{ℕ}
 use seplogic.Ra.Ura.{Ura}
 use mir.{Syntax.Width, Val.{Val, vint, vunit}}
 use types.Logic.{Logic}
-use denote.Array.{Array, array_vals, Array-Tells, Array-Lawful, Array-Makes, array_copy}
-use denote.{Exit.{Kept, unchanged, each_of}, RattleType.RattleType, Laws.{Typed, Is, Tells, Makes, Lawful, Copy}}
+use denote.Array.{Array, array_vals, Array-Tells, Array-Lawful, Array-Makes, Array-row_laws, array_copy}
+use denote.{ArrayMemory.Single, Copied.{Copied, uint_Copied, Nothing-Copied, Array-Copied}}
+use denote.{Exit.{Kept, unchanged, each_of}, RattleType.{RattleType, RowLaws}}
+use denote.Laws.{Typed, Is, Tells, Makes, Lawful, Copy}
 use denote.Plain.{UInt, uint_Tells, uint_Lawful, uint_Makes, uint_copy, Nothing, Nothing-Tells, Nothing-Lawful}
-use denote.Plain.{Nothing-Makes, Nothing-copy}
-use denote.{Steps.only, Struct.Struct.Plains, Enum.Enum.{Plainss, Few}}
+use denote.Plain.{Nothing-Makes, Nothing-copy, uint_row_laws, unit-row_laws}
+use denote.{Steps.only, Struct.Struct.{Plains, Struct as StructOf, Struct-row_laws}}
+use denote.{Struct.Recorded.Recorded-row_laws, Enum.Enum.{Plainss, Few, Enum as EnumOf, Enum-row_laws}}
 use denote.Struct.Declared as Struct
 use denote.Struct.Laws as StructLaws
 use denote.Enum.Declared as Enum
@@ -22,6 +25,10 @@ pub record Data (R : RattleType) : Type 2 where
   pub lawful : {M : Type 1} {𝓤 : Ura M} (𝓛 : Logic 𝓤) → Lawful 𝓛 R
   pub makes : {M : Type 1} {𝓤 : Ura M} (𝓛 : Logic 𝓤) → Makes 𝓛 R (Is R)
   pub copy : {M : Type 1} {𝓤 : Ura M} (𝓛 : Logic 𝓤) → Copy 𝓛 R
+  -- it has one MIR type, and a `&` to it is made, had twice and read through
+  pub one : Single R.mir
+  pub rows : RowLaws R
+  pub copied : {M : Type 1} {𝓤 : Ura M} (𝓛 : Logic 𝓤) → Copied 𝓛 R
 
 -- ---- the types that are plain data
 abbrev pub number : (w : Width) → Data (UInt w)
@@ -32,6 +39,9 @@ number w = record {
   lawful = λ 𝓛. uint_Lawful 𝓛 w;
   makes = λ 𝓛. uint_Makes 𝓛 w;
   copy = λ 𝓛. uint_copy 𝓛 w;
+  one = tt;
+  rows = uint_row_laws w;
+  copied = λ 𝓛. uint_Copied 𝓛 w;
 }
 
 abbrev pub unit : Data Nothing
@@ -42,6 +52,9 @@ unit = record {
   lawful = λ 𝓛. Nothing-Lawful 𝓛;
   makes = λ 𝓛. Nothing-Makes 𝓛;
   copy = λ 𝓛. Nothing-copy 𝓛;
+  one = tt;
+  rows = unit-row_laws;
+  copied = λ 𝓛. Nothing-Copied 𝓛;
 }
 
 abbrev pub struct : (T : Struct.Declared) → StructLaws.Laws T → Plains (Struct.fields T)
@@ -53,6 +66,10 @@ struct T L plain copies = record {
   lawful = λ 𝓛. StructLaws.lawful T L 𝓛;
   makes = λ 𝓛. StructLaws.makes T plain 𝓛;
   copy = λ 𝓛. StructLaws.copy T copies 𝓛;
+  one = tt;
+  rows = Recorded-row_laws (StructOf (Struct.shape T)) T.D T.to T.to_one
+      (Struct-row_laws (Struct.shape T) (StructLaws.copy_row_laws T.parts copies));
+  copied = λ 𝓛. StructLaws.copied T copies 𝓛;
 }
 
 abbrev pub enum : (T : Enum.Declared) → EnumLaws.Laws T → Few (Enum.shape T) → Plainss (Enum.variants T)
@@ -64,6 +81,10 @@ enum T L few plain copies = record {
   lawful = λ 𝓛. EnumLaws.lawful T L 𝓛 few;
   makes = λ 𝓛. EnumLaws.makes T plain 𝓛;
   copy = λ 𝓛. EnumLaws.copy T copies 𝓛;
+  one = tt;
+  rows = Recorded-row_laws (EnumOf (Enum.shape T)) T.D T.to T.to_one
+      (Enum-row_laws (Enum.shape T) (EnumLaws.copy_row_lawss T.parts copies));
+  copied = λ 𝓛. EnumLaws.copied T copies 𝓛;
 }
 
 abbrev pub array : {R : RattleType} → Data R → (n : ℕ) → Data (Array R n)
@@ -74,6 +95,9 @@ array {R} D n = record {
   lawful = λ 𝓛. Array-Lawful 𝓛 R (D.lawful 𝓛) n;
   makes = λ 𝓛. Array-Makes 𝓛 R (D.makes 𝓛) n;
   copy = λ 𝓛. array_copy 𝓛 R (D.copy 𝓛) n;
+  one = tt;
+  rows = Array-row_laws R D.rows n;
+  copied = λ 𝓛. Array-Copied 𝓛 R (D.copied 𝓛) D.one n;
 }
 
 module _ {R : RattleType} (D : Data R) where

@@ -3,27 +3,30 @@
 --     place_fits       where element i lies does not wrap
 --     reads_element    `_j = *_k`, where _k points at element i
 --     writes_element   `*_k = _j`: the slice is then at the list with that element set
---     settled          a `&mut [T]` that is let go says its last list
+--     settled          a `&mut [T]` that is let go says its last list, and hands its borrow back
 -- Assumes `Logic`.
 use denote.Ref.{Bor, MutBor}
 use mathlib.Core.{Path.{◌≡◌, refl, sym, ap, subst, ◌∙◌}, List.{List, [], ◌∷◌}}
 use Prim.Native.Nat.{ℕ, zero, suc, ◌+◌, ◌*◌, ◌<◌, ◌^◌}
 use native.Mathlib.Nat.{le_of_lt, lt_of_le_of_lt, mul-le-mul_right}
 use lib.{Dec.{T, lit<}, ListN.{length, get_or, set, length-set}}
-use seplogic.Ra.{Ura.Ura, TreeShare.full_share}
+use seplogic.Ra.Ura.{Ura}
+use base.Fraction.{full_share}
 use mir.{Syntax.{Lifetime, Ty, deref, place, copy, rv_opd, Body, seq, assign}, Val.{WT, has_ty, vptr}}
-use base.{Logic.ent, Fml.{Lft, Share, flft, fres}}
+use base.{Logic.ent, Fml.{Lft, Share, flft, fbor, fres}}
 use prog.Wp.{Calls, Loops, Env}
 use types.Logic.{Logic, sem}
 use types.Kit.{Item, ‵, ◌⊛◌, Post, runs, Seq, Step, step, ◌$◌, ◌∵◌, !, qed, move, keep, drop, use1, split}
 use types.Kit.{rewrite, fsplit, fjoin, done}
 use types.Run.{look, look_raw, store_raw, init, stop, hop, from, load, of_opd, assigns}
 use denote.Index.{place_is, elem_out, elem_back, elem_put, looks_slice, shuts_slice, opens_slice, closes_slice}
-use denote.{Laws.{Typed, Is, shows}, Memory.{mem, cell_at}, RattleType.RattleType, Ref.{RefT, at_last}, Shadow.pure_i}
-use denote.Slice.{MutSlice, ShrSlice, Room, mut_slice_at, heres, coded_holeys, shr_slice_vals, mut_slice_vals, finally, res-finally}
-use denote.Slice.{shr_slice_copy}
+use denote.{Laws.{Typed, Is, shows}, Lend.Held, Memory.{mem, cell_at}, RattleType.RattleType, Ref.at_last}
+use denote.Shadow.{pure_i}
+use denote.Slice.{MutSlice, ShrSlice, Room, mut_slice_at, heres, coded_holeys, shr_slice_vals, mut_slice_vals, finally}
+use denote.Slice.{res-finally, shr_slice_copy}
 use denote.Steps.{owned}
-use Rattle.walks.proofs.{Data.{Data, Real, typed}, Statements.{at, entry, cell, vacant, with, type_of}}
+use Rattle.walks.proofs.{Data.{Data, Real, typed}, Params.last_list}
+use Rattle.walks.proofs.Statements.{at, entry, cell, vacant, with, type_of}
 use denote.Index as Index
 
 pub place_fits : (R : RattleType) (i n : ℕ) → Room R n → i < n → i * (mem R).size < 2 ^ 64
@@ -48,13 +51,14 @@ module _ {M : Type 1} {𝓤 : Ura M} {𝓛 : Logic 𝓤} {K : Type 0} {C : Calls
         → Seq K 𝓛 (‵ (flft κ q) ∷ ‵ ((ShrSlice ℓ κ R).own_val x (shr_slice_vals x)) ∷ Γ)
         (runs C Λ E (seq (assign (place j []) (rv_opd (copy (place k (deref σ ∷ []))))) rest) goal)
     reads_element t {j} {k} points room is s =
-        move t (1 ∷ []) $ use1 𝓛 (‵ ((ShrSlice ℓ κ R).own_val x (shr_slice_vals x)) ⊛ ‵ ((ShrSlice ℓ κ R).own_val x (shr_slice_vals x)))
-        ((shr_slice_copy 𝓛 ℓ κ R).twice x (shr_slice_vals x)) $ split t $ fsplit t $ drop t $ fsplit t $ drop t $
+        move t (1 ∷ []) $
+        use1 𝓛 (‵ ((ShrSlice ℓ κ R).own_val x (shr_slice_vals x)) ⊛ ‵ ((ShrSlice ℓ κ R).own_val x (shr_slice_vals x)))
+        ((shr_slice_copy 𝓛 ℓ κ R D.rows).twice x (shr_slice_vals x)) $ split t $ fsplit t $ drop t $
         move t (0 ∷ 2 ∷ []) $
-        looks_slice t tt R (Is R) (shows 𝓛 R) (λ y. D.val y ∷ []) D.tells (D.copy 𝓛) x.now
-        x.ref_ptr.0 x.ref_ptr.1 (λ q'. elem_out t R (Is R) (shows 𝓛 R) (λ y. D.val y ∷ []) D.tells q'
+        looks_slice t tt R (D.copied 𝓛) x.now x.ref_ptr.0 x.ref_ptr.1 (λ q'.
+        elem_out t R (Is R) (shows 𝓛 R) (λ y. D.val y ∷ []) D.tells q'
         x.now i d x.ref_ptr.0 x.ref_ptr.1 l (λ g.
-        -- [the element; what it owns; the others; the open borrow; the fractured borrow; the slice; …]
+        -- [the element; what it owns; the others; the token's way back; what the slice holds; the slice; …]
         rewrite t 0 (λ (τs : List Ty). ‵ (cell_at q' τs (D.val (get_or x.now i d) ∷ []) x.ref_ptr.0
         (Index.place (mem R).size x.ref_ptr.1 i))) one refl $
         assigns t (of_opd t (load t (from t
@@ -97,15 +101,18 @@ module _ {M : Type 1} {𝓤 : Ura M} {𝓛 : Logic 𝓤} {K : Type 0} {C : Calls
         move t (1 ∷ []) $ drop t $ owned t R (Is R) (D.makes 𝓛) r (D.val r ∷ []) is $ move t
         (1 ∷ 0 ∷ []) $ elem_put t R full_share x.now i r (D.val r ∷ []) x.ref_ptr.0 x.ref_ptr.1 l $
         closes_slice t tt R x.now (set x.now i r) (length-set x.now i r) x.ref_ptr.0 x.ref_ptr.1 $ fjoin t $
-        pure_i t (mut_slice_at R (at_last x (set x.now i r)) (mut_slice_vals (at_last x (set x.now i r)))) (tt, (tt, tt))
-        (refl, subst (Room R) (sym (length-set x.now i r)) room) $ fjoin t $ move t (1 ∷ 0 ∷ []) $ s))
+        pure_i t (mut_slice_at R (at_last x (set x.now i r)) (mut_slice_vals (at_last x (set x.now i r))))
+        (tt, (tt, tt)) (refl, subst (Room R) (sym (length-set x.now i r)) room) $ fjoin t $ move t (1 ∷ 0 ∷ []) $ s))
 
--- a `&mut [T]` that is let go says its last list
+-- a `&mut [T]` that is let go says its last list, and hands its borrow back
 pub settled : {M : Type 1} {𝓤 : Ura M} (𝓛 : Logic 𝓤) (R : RattleType) (ℓ : Lifetime)
-    (κ : Lft) (x : MutBor (List R.Denot))
-    → ent 𝓤 (sem 𝓛 ((MutSlice ℓ κ R).own_val x (mut_slice_vals x))) (sem 𝓛 (finally R x.ghost_name x.now))
-settled 𝓛 R ℓ κ x = qed 𝓛 (‵ ((MutSlice ℓ κ R).own_val x (mut_slice_vals x)) ∷ []) ∵ fsplit ! $ move !
-    (1 ∷ []) $ fsplit ! $
-    use1 𝓛 (‵ (fres x.ghost_name ((coded_holeys R).code (heres R x.now))))
-    (𝓛.names.obs-res x.ghost_name ((coded_holeys R).code (heres R x.now))) $
-    use1 𝓛 (‵ (finally R x.ghost_name x.now)) (res-finally 𝓛 ℓ κ R x.ghost_name x.now) $ keep ! (0 ∷ []) $ done !
+    (κ : Lft) (x : MutBor (List R.Denot)) (zs : List R.Denot) → length zs ≡ length x.now
+    → ent 𝓤 (sem 𝓛 ((MutSlice ℓ κ R).own_val (at_last x zs) (mut_slice_vals (at_last x zs))))
+    (sem 𝓛 (last_list R κ x zs))
+settled 𝓛 R ℓ κ x zs e = qed 𝓛 (‵ ((MutSlice ℓ κ R).own_val (at_last x zs) (mut_slice_vals (at_last x zs))) ∷ []) ∵
+    fsplit ! $ move ! (1 ∷ []) $ fsplit ! $
+    use1 𝓛 (‵ (fres x.ghost_name ((coded_holeys R).code (heres R zs))))
+    (𝓛.names.obs-res x.ghost_name ((coded_holeys R).code (heres R zs))) $
+    use1 𝓛 (‵ (finally R x.ghost_name zs)) (res-finally 𝓛 ℓ κ R x.ghost_name zs) $
+    rewrite ! 1 (λ (m : ℕ). ‵ (fbor κ (Held R m x.ref_ptr.0 x.ref_ptr.1 x.ghost_name))) e refl $
+    keep ! (0 ∷ 1 ∷ []) $ fjoin ! $ done !

@@ -1,15 +1,16 @@
 -- The first elements of a local array that are lent as a `&mut [T]` for a call, and come back at the list that the
 -- callee left. While they are lent the array's place among the locals is empty: what is lent, what the lender holds of
--- it, and the other elements stand in front. lends_front, front_back      the way out, and back Assumes `Logic`.
+-- it, and the other elements stand in front. `lends_front` is the way out, `front_back` the way back. Assumes `Logic`.
 use mathlib.Core.{Path.{◌≡◌, refl, sym, ap, ◌∙◌}, List.{List, [], ◌∷◌, ◌++◌}}
 use Prim.Native.Nat.{ℕ, ◌+◌}
 use lib.ListN.{length}
-use seplogic.Ra.{Ura.Ura, TreeShare.full_share}
+use seplogic.Ra.Ura.{Ura}
+use base.Fraction.{full_share}
 use mir.{Syntax.{Lifetime, Place, Body, ty_array}, Val.Val}
-use base.Fml.{GName, ftrue, fat, flft, flent}
+use base.Fml.{Fml, GName, ftrue, fsep, fat, flft, flent}
 use prog.Wp.{Calls, Loops, Env, spot_of}
 use types.Logic.{Logic}
-use types.Kit.{Item, ‵, ◌⊛◌, some, given, later, put, Post, runs, lands, Seq, ◌$◌, move, use1, use2, use3, split}
+use types.Kit.{Item, ‵, ◌⊛◌, some, given, later, put, Post, runs, lands, Seq, ◌$◌, move, drop, use1, use2, use3, split}
 use types.Kit.{pick, learn, await, rewrite, fsplit, fjoin, feq_l, feq_i}
 use types.{SemTy.{Arr, cells}, Tokens.{lft_new, lft_end}}
 use denote.{ArrayMemory.Single, Lend.{Held, lends_slice, slice_back}, Memory.{lone, mem}, RattleType.RattleType}
@@ -50,16 +51,17 @@ module _ {M : Type 1} {𝓤 : Ura M} {𝓛 : Logic 𝓤} {K : Type 0} {Γ : List
       (lends_slice 𝓛 R ℓ (ν ∷ []) ys (spot_of 𝓤 H E k).1 0 room) $ await t tt $ pick t
       (λ δ. split t $ move t (2 ∷ 0 ∷ 1 ∷ []) $ s ν δ))
 
-  -- after the call, before its result is stored
-  pub front_back : K → {ν : ℕ} (δ : GName) (zs : List R.Denot) → length (ys ++ rest) ≡ n → {d : Place} {v : Val}
+  -- after the call, before its result is stored: the last list, beside what else the callee left of the slice
+  pub front_back : K → {ν : ℕ} {B : Fml} (δ : GName) (zs : List R.Denot) → length (ys ++ rest) ≡ n
+      → {d : Place} {v : Val}
       → (Real (array D n) (zs ++ rest) → Seq K 𝓛
       (put 𝓛 (at 𝓛 Γ E k) (‵ (fat full_share (ty_array (lone R.mir) n) (spot_of 𝓤 H E k).1 0
       ((array D n).val (zs ++ rest)))) Γ) (lands C Λ E d v b q))
-      → Seq K 𝓛 (‵ (flft (ν ∷ []) full_share) ∷ ‵ (finally R δ zs) ∷ ‵
+      → Seq K 𝓛 (‵ (flft (ν ∷ []) full_share) ∷ ‵ (fsep (finally R δ zs) B) ∷ ‵
       (flent (ν ∷ []) (Held R (length ys) (spot_of 𝓤 H E k).1 0 δ)) ∷ staying 𝓤 R rest (spot_of 𝓤 H E k).1
       (length ys) ∷ Γ) (lands C Λ E d v b q)
   front_back t {ν} δ zs long s =
-      lft_end t tt $ move t (0 ∷ 2 ∷ 1 ∷ []) $ use3 𝓛
+      lft_end t tt $ move t (1 ∷ []) $ fsplit t $ move t (1 ∷ []) $ drop t $ move t (1 ∷ 2 ∷ 0 ∷ []) $ use3 𝓛
       (later (‵ ((Arr (mem R) (length ys)).own_at zs (spot_of 𝓤 H E k).1 0)))
       (slice_back 𝓛 R (ν ∷ []) δ zs (length ys) (spot_of 𝓤 H E k).1 0) $ await t tt $
       fsplit t $ feq_l t (λ as_long. rewrite t 1 (staying 𝓤 R rest (spot_of 𝓤 H E k).1) (sym as_long) refl $

@@ -3,12 +3,13 @@
 -- front. Assumes `Logic`.
 use mathlib.Core.{Path.{◌≡◌, refl, sym, subst}, List.{List, [], ◌∷◌, ◌++◌}, Option.{Option, none, some}}
 use Prim.Native.Nat.{ℕ, suc, ◌-◌}
-use seplogic.Ra.{Ura.Ura, TreeShare.full_share}
+use seplogic.Ra.Ura.{Ura}
+use base.Fraction.{full_share}
 use lib.{Dec.T, ListN.{length, take, drop as dropped}}
 use mir.{Syntax.{Ty, Local, local, Fn}, Val.{Val, WT, has_ty}}
 use base.Logic.{SProp, sep, via, mono_r}
-use base.Fml.{Fml, ftrue, ffalse, feq, flt, fsep, fand, for, fwand, fex, fall, fupd, fat, froom, fdies, flft, fdead}
-use base.Fml.{fobs, fauth, fres, fbor, fobor, flent, fshr_bor}
+use base.Fml.{Fml, ftrue, ffalse, feq, flt, fsep, fand, for, fwand, fex, fall, fupd, fhide, fat, froom, fleft, fdies}
+use base.Fml.{flft, fdead, fobs, fauth, fres, fown, fbor, fobor, flent, fshr_bor, finv, fnamed, ftok, fkid, fme, fsent}
 use prog.Wp.{Calls, Loops, Env, WpFn}
 use types.Logic.{Logic}
 use types.Kit.{Item, ‵, raw, ◌⊛◌, some as some', given, later, ⋆, ++⊢, ⊢++, pop, push, Goal, prop, runs, at_ret}
@@ -59,18 +60,27 @@ module _ {M : Type 1} (𝓤 : Ura M) where
   held (fex X F) = none
   held (fall X F) = none
   held (fupd P) = none
+  held (fhide P) = none
   held (fat q τ b o v) = some v
   held (froom τ b o) = none
+  held (fleft q τ τs b o) = none
   held (fdies τ b) = none
   held (flft κ q) = none
   held (fdead κ) = none
   held (fobs γ u) = none
   held (fauth γ u) = none
   held (fres γ u) = none
+  held (fown R γ x) = none
   held (fbor κ P) = none
   held (fobor κ q P) = none
   held (flent κ P) = none
   held (fshr_bor κ F) = none
+  held (finv P) = none
+  held (fnamed n P) = none
+  held (ftok k) = none
+  held (fkid h a) = none
+  held (fme h) = none
+  held (fsent h) = none
 
   abbrev holds : Item 𝓤 → Option Val
   holds (‵ P) = held P

@@ -1,22 +1,23 @@
--- A function's parameters, each in one of three ways: a value of plain data, a `&[T]` or a `&mut [T]`. For each way
--- this says what the function and its caller have of it: on entry, in the caller's hands, and at the exit. value,
--- shared, changed       the three ways handed, kept, told           over a list of parameters: what is handed over,
--- what the caller keeps, what is said of the last values Assumes nothing; the laws take `Logic`.
+-- A function's parameters, each in one of three ways: a value of plain data (`value`), a `&[T]` (`shared`) or a
+-- `&mut [T]` (`changed`). For each way this says what the function and its caller have of it: on entry, in the caller's
+-- hands, and at the exit. `handed`, `kept` and `told` are of a list of parameters: what is handed over, what the caller
+-- keeps, and what is said of the last values. Assumes nothing; the laws take `Logic`.
 use mathlib.Core.{Path.{◌≡◌, refl, sym, subst}, List.{List, [], ◌∷◌, ◌++◌}}
 use Prim.Native.Nat.{ℕ, zero, suc}
 use lib.ListN.{length}
 use seplogic.Ra.Ura.{Ura}
 use mir.{Syntax.named, Val.Val}
-use base.{Logic.{SProp, ent, sep, emp, guard, id⊢, via, guard_i, emp∗, mono∗, mono_r}, Fml.{Fml, ftrue, feq, fsep, flft}}
+use base.Logic.{SProp, ent, sep, emp, guard, id⊢, via, guard_i, emp∗, mono∗, mono_r}
+use base.Fml.{Lft, Fml, ftrue, feq, fsep, flft, fbor}
 use types.Logic.{Logic, sem}
 use types.Kit.{Item, ‵, raw, ◌⊛◌, given, learn, join, ⋆, ++⊢, ⊢++, push, pop, ◌$◌, ◌∵◌, !, qed, by, move, use1}
-use types.Kit.{split, fsplit, feq_l, check, frame, done}
+use types.Kit.{split, fsplit, fjoin, feq_l, check, frame, done}
 use contract.{Monad.top, Lifetimes.{Lfts, Shares, toks}}
-use denote.{Exit.{Kept, yes, Exit, unchanged, Last, left}, RattleType.{RattleType, Denots, owns}}
-use denote.{Laws.{Is, Tells, Tellss, Spells, Ises, Lawful, Lawfuls, valss}, Ref.{name, now}}
+use denote.{Exit.{Kept, yes, Exit, unchanged, Last, left}, RattleType.{RattleType, RowLaws, Denots, owns}}
+use denote.{Laws.{Is, Tells, Tellss, Spells, Ises, Lawful, Lawfuls, valss}, Lend.Held, Ref.MutBor}
 use denote.{Signature.{Slot, AllWithin, plain, shr_slice_of, mut_slice_of, types_at, meet_at}, Steps.{nothing, owned}}
-use denote.Slice.{MutSlice, ShrSlice, shr_slice_vals, mut_slice_vals, finally, shr_slice_Tells, mut_slice_Tells, shr_slice_Lawful}
-use denote.Slice.{mut_slice_Lawful, shr_slice_copy}
+use denote.Slice.{MutSlice, ShrSlice, shr_slice_vals, mut_slice_vals, finally, shr_slice_Tells, mut_slice_Tells}
+use denote.Slice.{shr_slice_Lawful, mut_slice_Lawful, shr_slice_copy}
 use denote.Triple.End.{Kepts, Fins, lasts_of}
 use denote.Triple.Walked.{Stay, Stays, stay_dropped, gave_slice, Goes, AllGo, Goes-dropped, Goes-gave_slice, has_of}
 use Rattle.walks.proofs.Data.{Data}
@@ -42,11 +43,11 @@ pub record Param {n : ℕ} (s : Slot n) (k : Kept) : Type 2 where
   pub goes : {M : Type 1} {𝓤 : Ura M} (𝓛 : Logic 𝓤) → Goes 𝓛 n s k stay
   pub enters : {M : Type 1} {𝓤 : Ura M} (𝓛 : Logic 𝓤) →
       (κs : Lfts n) (x : (s.row κs).Denot)
-      → ent 𝓤 (sem 𝓛 ((s.row κs).own x (vals κs x))) (⋆ 𝓛 (items 𝓤 (hands κs x)))
+      → ent 𝓤 (sem 𝓛 ((s.row κs).own_val x (vals κs x))) (⋆ 𝓛 (items 𝓤 (hands κs x)))
   pub passes : {M : Type 1} {𝓤 : Ura M} (𝓛 : Logic 𝓤) →
       (κs : Lfts n) (x : (s.row κs).Denot) → Fact κs x
       → ent 𝓤 (⋆ 𝓛 (items 𝓤 (hands κs x)))
-      (sep 𝓤 (sem 𝓛 ((s.row κs).own x (vals κs x))) (⋆ 𝓛 (items 𝓤 (keeps κs x))))
+      (sep 𝓤 (sem 𝓛 ((s.row κs).own_val x (vals κs x))) (⋆ 𝓛 (items 𝓤 (keeps κs x))))
   pub returns : {M : Type 1} {𝓤 : Ura M} (𝓛 : Logic 𝓤) →
       (κs : Lfts n) (x : (s.row κs).Denot) (w : Last ((s.row κs).exit k) x)
       → ent 𝓤 (sem 𝓛 (left ((s.row κs).exit k) x w)) (guard 𝓤 (Knows κs x w) (⋆ 𝓛 (items 𝓤 (tell κs x w))))
@@ -77,9 +78,9 @@ value {n} {R} D k = record {
   leaves = λ {𝓤 = 𝓤} 𝓛 κs x w. id⊢ 𝓤 (emp 𝓤);
 }
 
-abbrev pub shared : {n : ℕ} (R : RattleType) (j : ℕ) (ok : AllWithin n (j ∷ [])) (k : Kept)
+abbrev pub shared : {n : ℕ} (R : RattleType) → RowLaws R → (j : ℕ) (ok : AllWithin n (j ∷ [])) (k : Kept)
     → Param {n = n} (shr_slice_of (j ∷ []) ok (plain (λ _. R))) k
-shared {n} R j ok k = record {
+shared {n} R L j ok k = record {
   vals = λ κs. shr_slice_vals;
   tells = λ κs. shr_slice_Tells (named j) (meet_at n (j ∷ []) ok κs) R;
   stay = stay_dropped (shr_slice_of (j ∷ []) ok (plain (λ _. R))) k;
@@ -91,10 +92,15 @@ shared {n} R j ok k = record {
   lawful = λ 𝓛 κs. shr_slice_Lawful 𝓛 (named j) (meet_at n (j ∷ []) ok κs) R;
   goes = λ 𝓛. Goes-dropped 𝓛 n (shr_slice_of (j ∷ []) ok (plain (λ _. R))) k (λ κs x w. refl);
   enters = λ {𝓤 = 𝓤} 𝓛 κs x. id⊢ 𝓤 _;
-  passes = λ 𝓛 κs x _. (shr_slice_copy 𝓛 (named j) (meet_at n (j ∷ []) ok κs) R).twice x (shr_slice_vals x);
+  passes = λ 𝓛 κs x _. (shr_slice_copy 𝓛 (named j) (meet_at n (j ∷ []) ok κs) R L).twice x (shr_slice_vals x);
   returns = λ {𝓤 = 𝓤} 𝓛 κs x w. guard_i 𝓤 (Unit {0}) (emp 𝓤) tt;
   leaves = λ {𝓤 = 𝓤} 𝓛 κs x w. id⊢ 𝓤 (emp 𝓤);
 }
+
+-- what is left of a `&mut [T]` that is let go: its last list, and the borrow, closed
+abbrev pub last_list : (R : RattleType) → Lft → MutBor (List R.Denot) → List R.Denot → Fml
+last_list R κ x w = fsep (finally R x.ghost_name w)
+    (fbor κ (Held R (length x.now) x.ref_ptr.0 x.ref_ptr.1 x.ghost_name))
 
 abbrev pub changed : {n : ℕ} (R : RattleType) (j : ℕ) (ok : AllWithin n (j ∷ []))
     → Param {n = n} (mut_slice_of (j ∷ []) ok (plain (λ _. R))) yes
@@ -105,15 +111,16 @@ changed {n} R j ok = record {
   Fact = λ κs x. Unit {0};
   hands = λ κs x. (MutSlice (named j) (meet_at n (j ∷ []) ok κs) R).own_val x (mut_slice_vals x) ∷ [];
   keeps = λ κs x. [];
-  Knows = λ κs x w. length w ≡ length (now x);
-  tell = λ κs x w. finally R (name x) w ∷ [];
+  Knows = λ κs x w. length w ≡ length x.now;
+  tell = λ κs x w. last_list R (meet_at n (j ∷ []) ok κs) x w ∷ [];
   lawful = λ 𝓛 κs. mut_slice_Lawful 𝓛 (named j) (meet_at n (j ∷ []) ok κs) R;
   goes = λ 𝓛. Goes-gave_slice 𝓛 n j ok (plain (λ _. R));
   enters = λ {𝓤 = 𝓤} 𝓛 κs x. id⊢ 𝓤 _;
   passes = λ 𝓛 κs x _. qed 𝓛 (‵ ((MutSlice (named j) (meet_at n (j ∷ []) ok κs) R).own_val x (mut_slice_vals x)) ∷ []) ∵
       nothing ! $ move ! (1 ∷ 0 ∷ []) $ done !;
-  returns = λ 𝓛 κs x w. qed 𝓛 (‵ (fsep (finally R (name x) w) (feq ℕ (length w) (length (now x)))) ∷ []) ∵
-      fsplit ! $ move ! (1 ∷ []) $ feq_l ! (λ e. check ! e $ done !);
+  returns = λ 𝓛 κs x w. qed 𝓛 (‵ (fsep (fsep (finally R x.ghost_name w) (feq ℕ (length w) (length x.now)))
+      (fbor (meet_at n (j ∷ []) ok κs) (Held R (length x.now) x.ref_ptr.0 x.ref_ptr.1 x.ghost_name))) ∷ []) ∵
+      fsplit ! $ fsplit ! $ move ! (1 ∷ []) $ feq_l ! (λ e. check ! e $ fjoin ! $ done !);
   leaves = λ {𝓤 = 𝓤} 𝓛 κs x w. id⊢ 𝓤 _;
 }
 
@@ -207,7 +214,7 @@ module _ {M : Type 1} {𝓤 : Ura M} (𝓛 : Logic 𝓤) {n : ℕ} where
     all_pass [] ks ps a fs = emp∗ 𝓤 (emp 𝓤)
     all_pass (s ∷ ss) ks ps a fs = both_pass 𝓛 (items 𝓤 (ps.0.hands κs a.0))
         (handed κs 𝓤 ss ks.1 ps.1 a.1) (items 𝓤 (ps.0.keeps κs a.0)) (kept κs 𝓤 ss ks.1 ps.1 a.1)
-        (sem 𝓛 ((s.row κs).own a.0 (ps.0.vals κs a.0)))
+        (sem 𝓛 ((s.row κs).own_val a.0 (ps.0.vals κs a.0)))
         (sem 𝓛 (owns (types_at ss κs) a.1 (valss (types_at ss κs) (spells κs ss ks.1 ps.1) a.1)))
         (ps.0.passes 𝓛 κs a.0 fs.0) (all_pass ss ks.1 ps.1 a.1 fs.1)
 
@@ -238,13 +245,13 @@ tokens 𝓤 (suc n) κs qs = ‵ (flft κs.0 qs.0) ∷ tokens 𝓤 n κs.1 qs.1
 module _ {M : Type 1} {𝓤 : Ura M} (𝓛 : Logic 𝓤) where
   open 𝓛 use {A}
 
-  pub tokens_out : (n : ℕ) (κs : Lfts n) (qs : Shares n) → ent 𝓤 (toks 𝓤 A n κs qs) (⋆ 𝓛 (tokens 𝓤 n κs qs))
+  pub tokens_out : (n : ℕ) (κs : Lfts n) (qs : Shares n) → ent 𝓤 (toks 𝓛 n κs qs) (⋆ 𝓛 (tokens 𝓤 n κs qs))
   tokens_out zero κs qs = id⊢ 𝓤 (emp 𝓤)
   tokens_out (suc n) κs qs = via 𝓤 (sep 𝓤 (A.lft κs.0 qs.0) (⋆ 𝓛 (tokens 𝓤 n κs.1 qs.1)))
       (mono_r 𝓤 (A.lft κs.0 qs.0) (tokens_out n κs.1 qs.1))
       (push 𝓛 (‵ (flft κs.0 qs.0)) (tokens 𝓤 n κs.1 qs.1))
 
-  pub tokens_in : (n : ℕ) (κs : Lfts n) (qs : Shares n) → ent 𝓤 (⋆ 𝓛 (tokens 𝓤 n κs qs)) (toks 𝓤 A n κs qs)
+  pub tokens_in : (n : ℕ) (κs : Lfts n) (qs : Shares n) → ent 𝓤 (⋆ 𝓛 (tokens 𝓤 n κs qs)) (toks 𝓛 n κs qs)
   tokens_in zero κs qs = id⊢ 𝓤 (emp 𝓤)
   tokens_in (suc n) κs qs = via 𝓤 (sep 𝓤 (A.lft κs.0 qs.0) (⋆ 𝓛 (tokens 𝓤 n κs.1 qs.1)))
       (pop 𝓛 (‵ (flft κs.0 qs.0)) (tokens 𝓤 n κs.1 qs.1))

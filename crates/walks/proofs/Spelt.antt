@@ -38,6 +38,8 @@ abbrev pub spelt : Fn → List Local → Fn
 spelt f locals = record {
   lifetimes = f.lifetimes;
   outlives = f.outlives;
+  ty_params = f.ty_params;
+  givens = f.givens;
   params = f.params;
   locals = locals;
   body = f.body;

@@ -3,14 +3,15 @@
 -- it. Assumes `Logic`.
 use mathlib.Core.{Path.{◌≡◌, sym, ap, subst}, List.{List, [], ◌∷◌}, Option.some, Bool.{Bool, true, false, not}}
 use Prim.Native.Nat.{ℕ, zero, ◌+◌}
-use seplogic.Ra.{Ura.Ura, TreeShare.full_share}
+use seplogic.Ra.Ura.{Ura}
+use base.Fraction.{full_share}
 use lib.Dec.{T}
-use mir.Syntax.{Name, Sym, Ty, ty_struct, Tys, field, deref, Place, place, Opd as Operand, copy, int, int_neg, int_big}
-use mir.Syntax.{float, opd_true, opd_false, opd_unit, ptr_const, Rv as RValue, addr_of, aggregate, Body, skip, seq, assign}
-use mir.Syntax.{cond, exit, call, return}
+use mir.Syntax.{Callee, Sym, Ty, ty_struct, Tys, field, deref, Place, place, Opd as Operand, copy, int, int_neg}
+use mir.Syntax.{int_big, float, opd_true, opd_false, opd_unit, ptr_const, size_of, align_of, num_of, fn_addr, vtable}
+use mir.Syntax.{Rv as RValue, addr_of, aggregate, Body, skip, seq, assign, cond, exit, call, return}
 use mir.{Val.{Val, Vals, vbool, vptr, vstruct, of_list, WT, has_ty}, Fields.get_v}
 use base.{Logic.SProp, Fml.{ftrue, fat, froom}}
-use prog.{Memory.{field_at, field_of}, Wp.{Heap, Calls, Loops, Env, spot_of, next, exits}}
+use prog.{Memory.{field_at, field_of}, Wp.{Calls, Loops, Env, spot_of, next, exits}}
 use types.Logic.{Logic}
 use types.Kit.{Item, ‵, nth, put, Post, post, at_ret, prop, runs, lands, frees, Seq, Step, step, ◌$◌}
 use types.Part.{Part, whole, sub, look_in, agg}
@@ -76,6 +77,11 @@ index opd_true = 0
 index opd_false = 0
 index opd_unit = 0
 index (ptr_const n) = 0
+index (size_of τ) = 0
+index (align_of τ) = 0
+index (num_of w τ) = 0
+index (fn_addr f τ) = 0
+index (vtable f τs) = 0
 
 abbrev pub indices : List Operand → List ℕ
 indices [] = []
@@ -221,7 +227,7 @@ module _ {M : Type 1} {𝓤 : Ura M} {𝓛 : Logic 𝓤} {K : Type 0} {Γ : List
         → Step K 𝓛 Γ (runs C Λ E (seq (assign p rv) (seq b rest)) q) Γ (runs C Λ E (seq (seq (assign p rv) b) rest) q)
     then_set t = step (λ s. record { prf = s.prf })
 
-    pub then_call : K → {f : Name} {xs : List Operand} {p : Place} {b : Body}
+    pub then_call : K → {f : Callee} {xs : List Operand} {p : Place} {b : Body}
         → Step K 𝓛 Γ (runs C Λ E (seq (call f xs p) (seq b rest)) q) Γ (runs C Λ E (seq (seq (call f xs p) b) rest) q)
     then_call t = step (λ s. record { prf = s.prf })
 
