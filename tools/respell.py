@@ -105,7 +105,7 @@ def from_kit(text):
 
 def lemma_file(path):
     """Whether a proof file is one of lemmas: not in the folder of a function's proof."""
-    return os.path.basename(path) not in ("Proof.antt", "Answers.antt", "Invariants.antt")
+    return "/proofs/" not in path or os.path.basename(path) not in ("Proof.antt", "Answers.antt", "Invariants.antt")
 
 
 def table(root):

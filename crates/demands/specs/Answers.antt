@@ -13,26 +13,26 @@ abbrev pub accepts : List ℕ → Said
 accepts values = record { number = 0; values = values }
 
 -- setup answers that it is done; ask and turn that the task seeks, or holds with the name; release the freed name
-abbrev pub toldSaid : Told → Said
-toldSaid Done = accepts []
-toldSaid Seeks = accepts []
-toldSaid (Holds name) = accepts (name.0 ∷ [])
-toldSaid (Freed name) = accepts (name.0 ∷ [])
-toldSaid (Refused why) = refusal_said why
+abbrev pub told_said : Told → Said
+told_said Done = accepts []
+told_said Seeks = accepts []
+told_said (Holds name) = accepts (name.0 ∷ [])
+told_said (Freed name) = accepts (name.0 ∷ [])
+told_said (Refused why) = refusal_said why
 
 abbrev pub said : Answer → Said
-said answer = toldSaid answer.told
+said answer = told_said answer.told
 
 -- whether a call was accepted
-abbrev pub toldAccepted : Told → Bool
-toldAccepted Done = true
-toldAccepted Seeks = true
-toldAccepted (Holds name) = true
-toldAccepted (Freed name) = true
-toldAccepted (Refused why) = false
+abbrev pub told_accepted : Told → Bool
+told_accepted Done = true
+told_accepted Seeks = true
+told_accepted (Holds name) = true
+told_accepted (Freed name) = true
+told_accepted (Refused why) = false
 
-abbrev pub isAccepted : Answer → Bool
-isAccepted answer = toldAccepted answer.told
+abbrev pub is_accepted : Answer → Bool
+is_accepted answer = told_accepted answer.told
 
 -- an answer that shows no access: those of setup and ask, and refusals
 abbrev pub plain : Told → Answer

@@ -1,7 +1,7 @@
 -- 00, demand 3: a list of calls on one memory, the answers that it gets, and the turns counted in those answers.
 use mathlib.Core.{Bool.{cond, ◌&&◌}, List.{List, [], ◌∷◌}}
 use Rattle.std.specs.Prelude.{ℕ, zero, suc, ◌+◌, eqb}
-use Rattle.demands.specs.{Memory.Memory, Answers.isAccepted, Calls.{call, turn}}
+use Rattle.demands.specs.{Memory.Memory, Answers.is_accepted, Calls.{call, turn}}
 use Rattle.machine.specs.declared.{Settings.Settings, Kind.{Kind, TheVariants.{Ask, Turn, Release}}, Event.Event}
 use Rattle.machine.specs.declared.Answer.{Answer}
 
@@ -37,4 +37,4 @@ abbrev pub turns_of : ℕ → List Answered → ℕ → ℕ
 turns_of p [] turns = turns
 turns_of p (done ∷ rest) turns =
     turns_of p rest
-    (cond (isAccepted done.answer && eqb done.event.task.0 p) (counted done.event.kind turns) turns)
+    (cond (is_accepted done.answer && eqb done.event.task.0 p) (counted done.event.kind turns) turns)

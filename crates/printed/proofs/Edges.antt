@@ -7,7 +7,7 @@ use lib.Dec.{T, eqb}
 use borrow.Author.Tests.{le-leb, lt-leb}
 use Rattle.grid.specs.Triangle.{half, place_number, diagonal_number}
 use Rattle.counting.{specs.Counting.{count, first_bad}, proofs.Tested.misses}
-use Rattle.demands.specs.{Memory.Memory, Answers.{toldAccepted, isAccepted, plain}}
+use Rattle.demands.specs.{Memory.Memory, Answers.{told_accepted, is_accepted, plain}}
 use Rattle.demands.specs.Calls.{call, setup, verdict_of, standing, ask, release}
 use Rattle.machine.specs.Grid.{arrive}
 use Rattle.machine.specs.promises.Ranges.{WithinLimits}
@@ -87,7 +87,7 @@ no_turns : NoTurns
 unfolding half place_number diagonal_number
 no_turns s lent ok one p l = (
   rw (fresh_ask s lent ok p l, one) (ap (λ (n : ℕ). plain (named n)) (cond_same (eqb s.version 1) 0)),
-  cond_same (isAccepted (call s (ask p) (setup s lent).memory).answer && eqb p p) 0,
+  cond_same (is_accepted (call s (ask p) (setup s lent).memory).answer && eqb p p) 0,
 )
 
 last_identifier : LastIdentifier
@@ -99,7 +99,7 @@ last_identifier s lent ok all = (
   rw (fresh_ask s lent ok 255 (omega arith)) (standing_accepted s (arrive s 0 0)),
 )
   where
-    standing_accepted : (t : Settings) (state : State) → T (toldAccepted (standing t state))
+    standing_accepted : (t : Settings) (state : State) → T (told_accepted (standing t state))
     standing_accepted t Idle = tt
     standing_accepted t (Seeking stand) = tt
     standing_accepted t (Holding place) = tt

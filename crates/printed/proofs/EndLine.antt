@@ -8,7 +8,7 @@ use native.Mathlib.{Nat.{le_refl, max-zero}, Omega.arith}
 use lib.{Dec.{T, eqb, ltb, eqb→eq}, ListN.{get_or, replicate}}
 use borrow.Author.Tests.{lt-ltb, le-ltb}
 use Rattle.machine.specs.{Records.{idle, is_holding, is_out}, Settings.bound}
-use Rattle.demands.specs.{Memory.{Memory, state_of, turns_in, out_of, largest}, Answers.isAccepted}
+use Rattle.demands.specs.{Memory.{Memory, state_of, turns_in, out_of, largest}, Answers.is_accepted}
 use Rattle.demands.specs.{Calls.{Outcome, name_at, told_of, call, setup}, History.{Answered, counted, turns_of}}
 use Rattle.demands.specs.promises.{Refusing.tasks_out, Demands.{memory_after, history_of, used, HoldsSome}}
 use Rattle.demands.specs.promises.OneAccess.{AcceptedIn}
@@ -84,7 +84,7 @@ module _ (asked turned : ℕ → Bool) where
 
 -- a count of turns after one more call with its answer, as `turns_of` has it
 abbrev ticked : ℕ → Event → Answer → ℕ → ℕ
-ticked p event answer turns = cond (isAccepted answer && eqb event.task.0 p) (counted event.kind turns) turns
+ticked p event answer turns = cond (is_accepted answer && eqb event.task.0 p) (counted event.kind turns) turns
 
 used_more : (s : Settings) (lent : Memory) (events : List Event) (event : Event) (p : ℕ)
     → used s lent (events ++ (event ∷ [])) p ≡ ticked p event (call s event (memory_after s lent events)).answer
@@ -109,7 +109,7 @@ used_counted s file zero p = sym (since_none (taken_at s file Ask p) (taken_at s
 used_counted s file (suc n) p =
     used_more s largest (events_of file n) (event_at file n) p
     ∙ ap (ticked p (event_at file n) (answer_at s file n)) (used_counted s file n p)
-    ∙ ticked_by_code (isAccepted (answer_at s file n)) (eqb (task_at file n).0 p) (eqb (code_at file n) 0)
+    ∙ ticked_by_code (is_accepted (answer_at s file n)) (eqb (task_at file n).0 p) (eqb (code_at file n) 0)
     (eqb (code_at file n) 1)
     (turns_since s file n p) (λ a b. let z = eqb→eq (code_at file n) 0 a in let y = eqb→eq (code_at file n) 1 b in
     omega arith)

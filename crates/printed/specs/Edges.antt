@@ -6,7 +6,7 @@
 use mathlib.Core.{Path.◌≡◌, Logic.◌⊎◌, List.{List, [], ◌∷◌, ◌++◌, map}}
 use Rattle.std.specs.Prelude.{ℕ, ◌+◌, ◌≤◌, ◌<◌, T}
 use Rattle.machine.specs.Places.{name_number}
-use Rattle.demands.specs.{Memory.{Memory, largest}, Answers.{said, isAccepted, plain}}
+use Rattle.demands.specs.{Memory.{Memory, largest}, Answers.{said, is_accepted, plain}}
 use Rattle.demands.specs.{Calls.{call, setup, ask, release}, History.{Answered, turns}}
 use Rattle.demands.specs.promises.Refusing.{NoneHolds, lent_lines, range_lines}
 use Rattle.demands.specs.promises.Demands.{SetUp, memory_after, history_of, used}
@@ -178,7 +178,7 @@ abbrev pub LastIdentifier : Type 0
 LastIdentifier =
     (s : Settings) (lent : Memory) → SetUp s lent → s.n ≡ 256
     → Refuses 4 (call s (ask 256) (setup s lent).memory).answer
-    × T (isAccepted (call s (ask 255) (setup s lent).memory).answer)
+    × T (is_accepted (call s (ask 255) (setup s lent).memory).answer)
 
 -- Release in mode 0, any identifier below N: 5, also while idle
 abbrev pub NoRelease : Type 0

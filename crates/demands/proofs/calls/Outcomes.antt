@@ -4,7 +4,7 @@ use mathlib.Core.{Path.{◌≡◌, refl, sym, subst}, Bool.{Bool, true, false}, 
 use Prim.Native.Nat.{◌≤◌}
 use native.Mathlib.Omega.{arith}
 use borrow.Author.Tests.{lt-leb, leb-false}
-use Rattle.demands.specs.{Memory.{Memory, state_of, out_of}, Answers.{isAccepted, plain}}
+use Rattle.demands.specs.{Memory.{Memory, state_of, out_of}, Answers.{is_accepted, plain}}
 use Rattle.demands.specs.Refusals.{first, when, no_such_task, one_time_release, wrong_moment, moment, too_many_out}
 use Rattle.demands.specs.Calls.{Outcome, refuse_or, call}
 use Rattle.machine.specs.RefusalNumbers.{number_of}
@@ -15,7 +15,7 @@ use Rattle.machine.specs.promises.Ranges.{WithinLimits}
 use Rattle.demands.proofs.refusals.{Passed.{Fit, May, fit_verdict}, Refusing.{ruled, ruled_accepted}}
 use Rattle.counting.proofs.Bools.{is_true}
 
-pub accepted_answer : (s : Settings) (event : Event) (m : Memory) → isAccepted (ruled s event m).answer ≡ true
+pub accepted_answer : (s : Settings) (event : Event) (m : Memory) → is_accepted (ruled s event m).answer ≡ true
 accepted_answer s event m = is_true _ (ruled_accepted s event m)
 
 pub data Called (s : Settings) (event : Event) (m : Memory) : Outcome → Type 0 where

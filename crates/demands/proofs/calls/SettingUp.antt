@@ -6,7 +6,7 @@ use native.Mathlib.{Nat.{not-suc-le-zero, le_of_suc-le-suc}, Omega.arith}
 use lib.{Dec.T, ListN.{length, get_or, take, replicate}}
 use Rattle.machine.specs.{Places.blocks, Records.idle}
 use Rattle.demands.specs.{Memory.{Memory, marks_needed, view_of}, Refusals.setup_verdict}
-use Rattle.demands.specs.{Answers.{said, isAccepted, plain}, Calls.{refuse_or, setup}}
+use Rattle.demands.specs.{Answers.{said, is_accepted, plain}, Calls.{refuse_or, setup}}
 use Rattle.machine.specs.declared.{Settings.Settings, Record.Record, Verdict.Verdict}
 use Rattle.machine.specs.declared.{Told.Told, Answer.Answer}
 use Rattle.demands.specs.promises.{Refusing.{NoneHolds, setup_lines, setup_says}, Surplus.needed}
@@ -28,7 +28,7 @@ module _ (s : Settings) (m : Memory) where
   accepted_done : (setup_says s m).number ≡ 0 → (setup s m).answer ≡ plain Told.Done
   accepted_done e = go (setup_verdict s (view_of s m.records 0) m) ((accepted_zero (setup s m).answer).1 e)
     where
-      go : (verdict : Verdict) → T (isAccepted (refuse_or verdict m (started s m)).answer)
+      go : (verdict : Verdict) → T (is_accepted (refuse_or verdict m (started s m)).answer)
           → (refuse_or verdict m (started s m)).answer ≡ plain Told.Done
       go Verdict.Accepted t = refl
       go (Verdict.Refused why) t = absurd t

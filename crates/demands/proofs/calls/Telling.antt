@@ -6,7 +6,7 @@ use lib.Dec.{T}
 use Rattle.machine.specs.Records.{is_seeking}
 use Rattle.demands.specs.Memory.{Memory, state_of}
 use Rattle.demands.specs.Calls.{Outcome, event_of, name_at, standing, freed, told_of, next_state, call}
-use Rattle.demands.specs.Answers.{toldSaid, Tells}
+use Rattle.demands.specs.Answers.{told_said, Tells}
 use Rattle.demands.specs.promises.{Demands.Seeks, OneAccess.AcceptedIn, Telling.EachAnswerTells}
 use Rattle.machine.specs.declared.{Settings.Settings, State.{State, TheVariants.{Idle, Seeking, Holding}}, Place.Place}
 use Rattle.machine.specs.declared.{Record.Record, Kind.{Kind, TheVariants.{Ask, Turn, Release}}, Told.Told}
@@ -14,9 +14,9 @@ use Rattle.machine.specs.declared.Answer.{Answer}
 use Rattle.demands.proofs.{refusals.Passing.by_the_rules, calls.Effects.only_the_register_written_changes}
 
 -- an answer says what its case tells
-pub tells : (told is : Told) (values : List ℕ) → told ≡ is → Tells (toldSaid is) values
-    → (told ≡ is) × Tells (toldSaid told) values
-tells told is values e so = (e, subst (λ (t : Told). Tells (toldSaid t) values) (sym e) so)
+pub tells : (told is : Told) (values : List ℕ) → told ≡ is → Tells (told_said is) values
+    → (told ≡ is) × Tells (told_said told) values
+tells told is values e so = (e, subst (λ (t : Told). Tells (told_said t) values) (sym e) so)
 
 seeks_told : (s : Settings) (state : State) → T (is_seeking state) → standing s state ≡ Told.Seeks
 seeks_told s Idle t = absurd t

@@ -7,7 +7,7 @@ use lib.{Dec.T, ListN.{length, replicate, length-replicate}}
 use borrow.Author.Tests.{le-ltb, not-false}
 use Rattle.machine.specs.{Places.blocks, Records.{idle, is_seeking, is_out, record_in_range}}
 use Rattle.demands.specs.Memory.{Memory, marks_needed, record_of, state_of, bad_record, out_of, largest}
-use Rattle.demands.specs.{Answers.isAccepted, Calls.{Outcome, call, setup, turn}}
+use Rattle.demands.specs.{Answers.is_accepted, Calls.{Outcome, call, setup, turn}}
 use Rattle.machine.specs.promises.Ranges.{WithinLimits}
 use Rattle.demands.specs.promises.Demands.{SetUp, memory_after, history_of, Seeks, HoldsSome, all_accepted}
 use Rattle.demands.specs.promises.Demands.{NeedsBound}
@@ -24,7 +24,7 @@ use Rattle.grid.proofs.Triangle.{half_most}
 
 -- a turn that is accepted was a seeking task's
 taken_turn_seeks : (s : Settings) (m : Memory) (p : ℕ) (outcome : Outcome) → Called s (turn p) m outcome
-    → T (isAccepted outcome.answer)
+    → T (is_accepted outcome.answer)
     → Seeks m p
 taken_turn_seeks s m p outcome (refused why its_task) t = absurd t
 taken_turn_seeks s m p outcome (taken o) t = rw (not-false (is_seeking (state_of m p)) o.moment) tt

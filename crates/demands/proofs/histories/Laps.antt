@@ -6,7 +6,7 @@ use native.Mathlib.{Nat.{le_refl, not-suc-le-zero}, Decide.dec_lt, Omega.arith}
 use lib.Dec.{T}
 use borrow.Author.Tests.{lt-leb}
 use Rattle.machine.specs.{Records.{is_idle, is_seeking}, Places.block}
-use Rattle.demands.specs.{Memory.{Memory, state_of, out_of}, Answers.isAccepted}
+use Rattle.demands.specs.{Memory.{Memory, state_of, out_of}, Answers.is_accepted}
 use Rattle.demands.specs.Calls.{Outcome, next_state, accept, call, event_of}
 use Rattle.machine.specs.declared.{Settings.Settings, Point.Point, State.{State, TheVariants.{Idle, Seeking}}}
 use Rattle.machine.specs.declared.{Kind.{Kind, TheVariants.{Ask, Turn}}, Event.Event}
@@ -19,7 +19,7 @@ module _ (s : Settings) (fair : WithinLimits s) where
   -- an accepted call of task p, whose record says `state`
   pub record Took (kind : Kind) (p : ℕ) (state : State) (m : Memory) : Type 0 where
     pub does : call s (event_of kind p) m ≡ accept s kind p state m
-    pub says : T (isAccepted (accept s kind p state m).answer)
+    pub says : T (is_accepted (accept s kind p state m).answer)
     pub fine : InOrder s fair (accept s kind p state m).memory
     pub its : state_of (accept s kind p state m).memory p ≡ next_state s kind p state m
     pub others : (q : ℕ) → (q ≡ p → ⊥) → state_of (accept s kind p state m).memory q ≡ state_of m q
@@ -53,7 +53,7 @@ module _ {s : Settings} {fair : WithinLimits s} where
       may_accepted s fair (event_of kind p) m f.invariants.fit o ∙ ap (λ (z : State). accept s kind p z m) e in
       record {
         does = does;
-        says = subst (λ (z : State). T (isAccepted (accept s kind p z m).answer)) e
+        says = subst (λ (z : State). T (is_accepted (accept s kind p z m).answer)) e
             (rw (accepted_answer s (event_of kind p) m) tt);
         fine = rw (ap (λ (o : Outcome). o.memory) does) at (in_order_kept s fair (event_of kind p) m f);
         its = caller_after s m f.invariants.fit p o.known kind state;

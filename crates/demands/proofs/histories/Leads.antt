@@ -4,7 +4,7 @@ use mathlib.Core.{Path.{◌≡◌, refl, sym, ap, subst, ◌∙◌}, Bool.{Bool,
 use mathlib.Core.List.{List, [], ◌∷◌, ◌++◌, append_assoc, append-nil}
 use Prim.Native.Nat.{ℕ}
 use lib.Dec.{T, eqb}
-use Rattle.demands.specs.{Memory.Memory, Answers.isAccepted, Calls.{Outcome, call}}
+use Rattle.demands.specs.{Memory.Memory, Answers.is_accepted, Calls.{Outcome, call}}
 use Rattle.demands.specs.History.{run, Answered, history, counted, turns_of}
 use Rattle.demands.specs.promises.Demands.{all_accepted}
 use Rattle.machine.specs.declared.{Settings.Settings, Event.Event}
@@ -21,16 +21,16 @@ leads_nowhere = record { ends = refl; accepted = tt }
 
 pub leads_more : {s : Settings} {event : Event} {events : List Event} {m last : Memory} (outcome : Outcome)
     → call s event m ≡ outcome
-    → T (isAccepted outcome.answer) → Leads s events outcome.memory last → Leads s (event ∷ events) m last
+    → T (is_accepted outcome.answer) → Leads s events outcome.memory last → Leads s (event ∷ events) m last
 leads_more {s} {events = events} outcome e t l = record {
   ends = ap (λ (o : Outcome). run s events o.memory) e ∙ l.ends;
-  accepted = subst (λ (o : Outcome). T (isAccepted o.answer && all_accepted (history s events o.memory))) (sym e)
-      (and_in (isAccepted outcome.answer) (all_accepted (history s events outcome.memory)) t l.accepted);
+  accepted = subst (λ (o : Outcome). T (is_accepted o.answer && all_accepted (history s events o.memory))) (sym e)
+      (and_in (is_accepted outcome.answer) (all_accepted (history s events outcome.memory)) t l.accepted);
 }
 
 all_append : (done more : List Answered) → all_accepted (done ++ more) ≡ all_accepted done && all_accepted more
 all_append [] more = refl
-all_append (one ∷ done) more = go (isAccepted one.answer) (all_append done more)
+all_append (one ∷ done) more = go (is_accepted one.answer) (all_append done more)
   where
     go : (b : Bool) → all_accepted (done ++ more) ≡ all_accepted done && all_accepted more
         → b && all_accepted (done ++ more) ≡ (b && all_accepted done) && all_accepted more
@@ -61,12 +61,12 @@ pub record EndsWith (events : List Event) (last : Event) : Type 0 where
 
 pub last_accepted : (s : Settings) (before : List Event) (last : Event) (m : Memory)
     → T (all_accepted (history s (before ++ (last ∷ [])) m))
-    → T (isAccepted (call s last (run s before m)).answer)
+    → T (is_accepted (call s last (run s before m)).answer)
 last_accepted s before last m t =
     let both = rw (accepted_append s before (last ∷ []) m) at t in
     let end = and_r (all_accepted (history s before m))
-    (isAccepted (call s last (run s before m)).answer && true) both in
-    and_l (isAccepted (call s last (run s before m)).answer) true end
+    (is_accepted (call s last (run s before m)).answer && true) both in
+    and_l (is_accepted (call s last (run s before m)).answer) true end
 
 pub ends_alone : {last : Event} → EndsWith (last ∷ []) last
 ends_alone = record { before = []; split = refl }
@@ -98,11 +98,11 @@ pub used_written : (s : Settings) (p : ℕ) (events : List Event) (m : Memory) (
     → turns_of p (history s events m) t ≡ written_turns p events t
 used_written s p [] m t h = refl
 used_written s p (event ∷ events) m t h =
-    let first = and_l (isAccepted (call s event m).answer)
+    let first = and_l (is_accepted (call s event m).answer)
     (all_accepted (history s events (call s event m).memory)) h in
-    let rest = and_r (isAccepted (call s event m).answer)
+    let rest = and_r (is_accepted (call s event m).answer)
     (all_accepted (history s events (call s event m).memory)) h in
     ap (λ (b : Bool). turns_of p (history s events (call s event m).memory)
     (cond (b && eqb event.task.0 p) (counted event.kind t) t))
-    (is_true (isAccepted (call s event m).answer) first)
+    (is_true (is_accepted (call s event m).answer) first)
     ∙ used_written s p events (call s event m).memory _ rest

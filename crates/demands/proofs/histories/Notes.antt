@@ -5,7 +5,7 @@ use Prim.Native.Nat.{ℕ, ◌+◌, ◌<◌}
 use native.Mathlib.{Decide.ℕ_discrete, Omega.arith}
 use lib.{Dec.T, ListN.{length, get_or, set}, Seq.{get_or-set_same, get_or-set_other}}
 use Rattle.machine.specs.Records.{idle, is_idle}
-use Rattle.demands.specs.{Memory.{Memory, state_of}, Answers.toldAccepted}
+use Rattle.demands.specs.{Memory.{Memory, state_of}, Answers.told_accepted}
 use Rattle.demands.specs.Calls.{Outcome, refuse_or, verdict_of, call, setup}
 use Rattle.demands.specs.promises.{Demands.{SetUp, HoldsName}, OneAccess.AcceptedIn}
 use Rattle.demands.specs.promises.Notes.{noted, Noted, Agree, notes_after, NotesKept, EachNotesKept}
@@ -28,7 +28,7 @@ same_agree s m after p n a b e same h =
 -- ---- what an accepted call tells
 
 -- where no name was held before but "freed" is told, the note after says what is told
-note_says : (told : Told) (before n : ℕ) → T (toldAccepted told)
+note_says : (told : Told) (before n : ℕ) → T (told_accepted told)
     → ((m : ℕ) → before ≡ m + 1 → told ≡ Told.Freed (record { 0 = m }))
     → (noted told before ≡ n + 1) ↔ (told ≡ Told.Holds (record { 0 = n }))
 note_says Told.Done before n ok freed =

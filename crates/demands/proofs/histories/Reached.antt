@@ -6,7 +6,7 @@ use Prim.Native.Nat.{ℕ, ◌≤◌, ◌<◌}
 use native.Mathlib.Omega.{arith}
 use lib.Dec.{T}
 use Rattle.machine.specs.{Records.idle, promises.Ranges.WithinLimits}
-use Rattle.demands.specs.{Memory.{Memory, record_of, state_of, view_of}, Answers.{said, toldAccepted, plain}}
+use Rattle.demands.specs.{Memory.{Memory, record_of, state_of, view_of}, Answers.{said, told_accepted, plain}}
 use Rattle.demands.specs.{Refusals.setup_verdict, Calls.{Outcome, event_of, standing, freed, next_state, refuse_or}}
 use Rattle.demands.specs.Calls.{verdict_of, call, cleared, setup}
 use Rattle.demands.specs.promises.{Demands.{SetUp, memory_after, HoldsName}, Refusing.{SomeRowShort, call_says}}
@@ -175,7 +175,7 @@ follow s event m = record {
   );
   freed_by_release = λ n e.
       (freed_held s event.task.0 n m event.kind
-      (subst (λ (told : Told). T (toldAccepted told)) (sym e) tt) e).0;
+      (subst (λ (told : Told). T (told_accepted told)) (sym e) tt) e).0;
 }
 
 pub reached_promises : ReachedPromises

@@ -4,7 +4,7 @@ use mathlib.Core.{Path.{◌≡◌, refl}, Bool.{false, not}, List.List}
 use Prim.Native.Nat.{ℕ, ◌<◌}
 use lib.Dec.{T}
 use Rattle.machine.specs.Records.{is_seeking}
-use Rattle.demands.specs.{Memory.{Memory, state_of}, Answers.isAccepted, Calls.{call, turn}}
+use Rattle.demands.specs.{Memory.{Memory, state_of}, Answers.is_accepted, Calls.{call, turn}}
 use Rattle.demands.specs.promises.Demands.{SetUp, memory_after, Seeks}
 use Rattle.machine.specs.declared.{Settings.Settings, State.{State, TheVariants.{Idle, Seeking, Holding}}, Event.Event}
 use Rattle.demands.proofs.calls.{Fresh.setup_within, Outcomes.{accepted_answer, may_accepted}}
@@ -20,7 +20,7 @@ seeker_may s m p l t = record { known = l; lived = refl; moment = seeking (state
 
 pub seeker_accepted : (s : Settings) (lent : Memory) (events : List Event) → SetUp s lent → (p : ℕ) → p < s.n
     → Seeks (memory_after s lent events) p
-    → T (isAccepted (call s (turn p) (memory_after s lent events)).answer)
+    → T (is_accepted (call s (turn p) (memory_after s lent events)).answer)
 seeker_accepted s lent events ok p l t =
     let m = memory_after s lent events in
     let taken = may_accepted s (setup_within s lent ok) (turn p) m (always_in_order s lent ok events).invariants.fit

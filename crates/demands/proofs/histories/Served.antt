@@ -7,7 +7,7 @@ use native.Mathlib.Omega.{arith}
 use lib.Dec.{T, eqb}
 use borrow.Author.Tests.{eqb-true, eqb-false, eq-eqb}
 use Rattle.machine.specs.{Settings.bound, Records.{is_seeking, is_holding, is_out}, Turn.turns_after}
-use Rattle.demands.specs.{Memory.{Memory, state_of, turns_in}, Refusals.wrong_moment, Answers.isAccepted}
+use Rattle.demands.specs.{Memory.{Memory, state_of, turns_in}, Refusals.wrong_moment, Answers.is_accepted}
 use Rattle.demands.specs.Calls.{Outcome, next_state, accept, call, setup, turn}
 use Rattle.demands.specs.History.{run, Answered, history, counted, turns_of, turns}
 use Rattle.demands.specs.promises.Demands.{SetUp, memory_after, history_of, used, Seeks, HoldsSome, TurnsTold}
@@ -71,12 +71,12 @@ module _ (s : Settings) (fair : WithinLimits s) (p : ℕ) (m : Memory) (sound : 
       freed Release release = refl
 
   call_counts : (event : Event) → Counts m p t
-      → Counts (call s event m).memory p (cond (isAccepted (call s event m).answer && eqb event.task.0 p)
+      → Counts (call s event m).memory p (cond (is_accepted (call s event m).answer && eqb event.task.0 p)
       (counted event.kind t) t)
   call_counts event h = go (call s event m) (called s fair event m sound) (eqb event.task.0 p) refl
     where
       go : (outcome : Outcome) → Called s event m outcome → (its : Bool) → eqb event.task.0 p ≡ its
-          → Counts outcome.memory p (cond (isAccepted outcome.answer && its) (counted event.kind t) t)
+          → Counts outcome.memory p (cond (is_accepted outcome.answer && its) (counted event.kind t) t)
       go outcome (refused why its_task) its e = h
       go outcome (taken o) true e =
           let z : event.task.0 ≡ p = eqb-true event.task.0 p e in

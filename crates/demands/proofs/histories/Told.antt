@@ -8,7 +8,7 @@ use lib.Dec.{eqb}
 use borrow.Author.Tests.{eqb-true, eqb-false, ne_eqb}
 use Rattle.machine.specs.{Places.place_name, Records.{is_holding, is_out}, Turn.{stand_access, begin}}
 use Rattle.demands.specs.{Memory.{Memory, state_of}, Touching.value, Refusals.wrong_moment}
-use Rattle.demands.specs.Answers.{isAccepted, plain}
+use Rattle.demands.specs.Answers.{is_accepted, plain}
 use Rattle.demands.specs.Calls.{Outcome, name_at, standing, told_of, next_state, call, setup, release}
 use Rattle.demands.specs.History.{run, history}
 use Rattle.demands.specs.promises.Demands.{SetUp, memory_after, history_of, last_answer, TrueOf, LastAnswerTrue}
@@ -49,7 +49,7 @@ answer_true s Release p (Holding place) m e = tt
 
 -- the last answer of task p, after one more call
 abbrev heard : ℕ → Event → Outcome → Answer → Answer
-heard p event outcome before = cond (isAccepted outcome.answer && eqb event.task.0 p) outcome.answer before
+heard p event outcome before = cond (is_accepted outcome.answer && eqb event.task.0 p) outcome.answer before
 
 module _ (s : Settings) (fair : WithinLimits s) (p : ℕ) (m : Memory) (sound : Fit s m) (before : Answer) where
   heard_kept : (event : Event) → TrueOf s (state_of m p) before.told
@@ -58,7 +58,7 @@ module _ (s : Settings) (fair : WithinLimits s) (p : ℕ) (m : Memory) (sound : 
     where
       go : (outcome : Outcome) → Called s event m outcome → (its : Bool) → eqb event.task.0 p ≡ its
           → TrueOf s (state_of outcome.memory p)
-          (cond (isAccepted outcome.answer && its) outcome.answer before).told
+          (cond (is_accepted outcome.answer && its) outcome.answer before).told
       go outcome (refused why its_task) its e = h
       go outcome (taken o) true e =
           let z : event.task.0 ≡ p = eqb-true event.task.0 p e in

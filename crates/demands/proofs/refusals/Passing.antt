@@ -4,7 +4,7 @@ use Prim.Native.Nat.{ℕ, ◌<◌}
 use native.Mathlib.Omega.{arith}
 use lib.{Dec.T, ListN.length}
 use Rattle.machine.specs.{Places.blocks, Records.{state_in_range, turns_in_range}}
-use Rattle.demands.specs.{Memory.{Memory, marks_needed, state_of, turns_in}, Answers.isAccepted}
+use Rattle.demands.specs.{Memory.{Memory, marks_needed, state_of, turns_in}, Answers.is_accepted}
 use Rattle.demands.specs.Calls.{Outcome, refuse_or, verdict_of, call}
 use Rattle.machine.specs.declared.{Settings.Settings, Event.Event, Row.{Row, TheVariants.{Records, Xs, Marks}}}
 use Rattle.machine.specs.declared.Verdict.{Verdict}
@@ -68,7 +68,7 @@ passed s event m t =
 pub by_the_rules : (s : Settings) (event : Event) (m : Memory) → AcceptedIn s event m → call s event m ≡ ruled s event m
 by_the_rules s event m = go (verdict_of s event m) (ruled s event m)
   where
-    go : (verdict : Verdict) (outcome : Outcome) → T (isAccepted (refuse_or verdict m outcome).answer)
+    go : (verdict : Verdict) (outcome : Outcome) → T (is_accepted (refuse_or verdict m outcome).answer)
         → refuse_or verdict m outcome ≡ outcome
     go Verdict.Accepted outcome t = refl
     go (Verdict.Refused why) outcome t = absurd t

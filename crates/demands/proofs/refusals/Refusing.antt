@@ -8,7 +8,7 @@ use lib.{Dec.T, ListN.length}
 use Rattle.demands.specs.Memory.{Memory, state_of, turns_in, view_of}
 use Rattle.demands.specs.Refusals.{Case, when, first, lent_cases, range_cases, task_cases, outside_limits, row_short}
 use Rattle.demands.specs.Refusals.{no_such_task, one_time_release, wrong_moment, moment, too_many_out, row_busy}
-use Rattle.demands.specs.{Refusals.setup_verdict, Answers.{toldSaid, said, toldAccepted, isAccepted, plain}}
+use Rattle.demands.specs.{Refusals.setup_verdict, Answers.{told_said, said, told_accepted, is_accepted, plain}}
 use Rattle.demands.specs.Calls.{Outcome, told_of, next_state, accept, refuse_or, verdict_of, call, cleared, setup}
 use Rattle.machine.specs.promises.Ranges.{WithinLimits, StateWithin, TurnsWithin}
 use Rattle.demands.specs.promises.Refusing.{Line, line, FirstHolds, RefusedExactly, SomeBusy, task_lines}
@@ -31,10 +31,10 @@ use Rattle.counting.proofs.Tested.{Tested, most, either, fails, meaning, passes,
 -- ---- what answers say
 
 -- an answer is accepted exactly if its number is 0
-pub accepted_zero : (answer : Answer) → T (isAccepted answer) ↔ ((said answer).number ≡ 0)
+pub accepted_zero : (answer : Answer) → T (is_accepted answer) ↔ ((said answer).number ≡ 0)
 accepted_zero answer = go answer.told
   where
-    go : (told : Told) → T (toldAccepted told) ↔ ((toldSaid told).number ≡ 0)
+    go : (told : Told) → T (told_accepted told) ↔ ((told_said told).number ≡ 0)
     go Done = (λ t. refl, λ e. tt)
     go Seeks = (λ t. refl, λ e. tt)
     go (Holds name) = (λ t. refl, λ e. tt)
@@ -42,7 +42,7 @@ accepted_zero answer = go answer.told
     go (Refused why) = (λ t. absurd t, λ e. let low = (refusal_says why).0 in absurd (omega arith))
 
 -- what the rules tell is no refusal
-rules_accept : (s : Settings) (kind : Kind) (before after : State) → T (toldAccepted (told_of s kind before after))
+rules_accept : (s : Settings) (kind : Kind) (before after : State) → T (told_accepted (told_of s kind before after))
 rules_accept s Ask before Idle = tt
 rules_accept s Ask before (Seeking stand) = tt
 rules_accept s Ask before (Holding place) = tt
@@ -60,7 +60,7 @@ ruled s event m = accept s event.kind event.task.0 (state_of m event.task.0) m
 abbrev pub started : Settings → Memory → Outcome
 started s m = record { answer = plain Done; memory = cleared s m }
 
-pub ruled_accepted : (s : Settings) (event : Event) (m : Memory) → T (isAccepted (ruled s event m).answer)
+pub ruled_accepted : (s : Settings) (event : Event) (m : Memory) → T (is_accepted (ruled s event m).answer)
 ruled_accepted s event m =
     rules_accept s event.kind (state_of m event.task.0)
     (next_state s event.kind event.task.0 (state_of m event.task.0) m)

@@ -4,7 +4,7 @@
 use mathlib.Core.{Path.◌≡◌, Logic.◌⊎◌, Bool.{Bool, true, cond, ◌&&◌}, List.{List, [], ◌∷◌, ◌++◌}}
 use Rattle.std.specs.Prelude.{ℕ, ◌+◌, ◌*◌, ◌/◌, ◌≤◌, ◌<◌, T, eqb}
 use Rattle.machine.specs.{Settings.bound, Places.place_name, Records.{is_seeking, is_holding}}
-use Rattle.demands.specs.{Memory.{Memory, state_of, turns_in, largest}, Answers.{said, Tells, isAccepted, plain}}
+use Rattle.demands.specs.{Memory.{Memory, state_of, turns_in, largest}, Answers.{said, Tells, is_accepted, plain}}
 use Rattle.demands.specs.Calls.{name_at, call, setup, turn, release}
 use Rattle.demands.specs.History.{run, Answered, history, turns_of, turns}
 use Rattle.machine.specs.promises.Ranges.{WithinLimits, TurnsWithin}
@@ -44,7 +44,7 @@ HoldsSome m p = T (is_holding (state_of m p))
 abbrev pub last_answer : ℕ → List Answered → Answer → Answer
 last_answer p [] before = before
 last_answer p (done ∷ rest) before =
-    last_answer p rest (cond (isAccepted done.answer && eqb done.event.task.0 p) done.answer before)
+    last_answer p rest (cond (is_accepted done.answer && eqb done.event.task.0 p) done.answer before)
 
 -- what a task was last answered is true of its record: after "seeks" it seeks, after "holds" with a name it holds that
 -- name, and before its first ask and after "freed" it is idle
@@ -96,7 +96,7 @@ abbrev pub SeekerNeverRefused : Type 0
 SeekerNeverRefused =
     (s : Settings) (lent : Memory) (events : List Event) → SetUp s lent → (p : ℕ) → p < s.n
     → Seeks (memory_after s lent events) p
-    → T (isAccepted (call s (turn p) (memory_after s lent events)).answer)
+    → T (is_accepted (call s (turn p) (memory_after s lent events)).answer)
 
 -- "From an accepted ask, a task holds a name within .. of its own accepted turns": it has used fewer than the bound
 -- while it seeks, at most the bound when it holds, and from any point on its own turns alone, "though every other task
@@ -126,7 +126,7 @@ EachTurnsTold =
 -- no call of a history is refused
 abbrev pub all_accepted : List Answered → Bool
 all_accepted [] = true
-all_accepted (done ∷ rest) = isAccepted done.answer && all_accepted rest
+all_accepted (done ∷ rest) = is_accepted done.answer && all_accepted rest
 
 -- "For each permitted mode, N and k some sequence makes one task need exactly that many": after the calls `before` task
 -- 0 still seeks (with k = 1 it has not asked), its next call lets it hold, it has then used exactly the bound, and no

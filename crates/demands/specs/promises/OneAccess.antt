@@ -6,7 +6,7 @@ use mathlib.Core.{Path.◌≡◌, Bool.{Bool, true, false, not}, List.List}
 use Rattle.std.specs.Prelude.{ℕ, ◌+◌, ◌≤◌, ◌<◌}
 use lib.{Dec.T, ListN.{length, get_or}}
 use Rattle.machine.specs.{Settings.{width, own}, Places.{blocks, block_number, cell}, Turn.access}
-use Rattle.demands.specs.{Memory.{Memory, marks_needed, mark_index, record_of, state_of, content}, Answers.isAccepted}
+use Rattle.demands.specs.{Memory.{Memory, marks_needed, mark_index, record_of, state_of, content}, Answers.is_accepted}
 use Rattle.demands.specs.Calls.{record_after, call}
 use Rattle.machine.specs.promises.Ranges.{WithinLimits, StandWithin}
 use Rattle.machine.specs.declared.{Settings.Settings, Stand.Stand, State.{State, TheVariants.{Seeking, Holding}}}
@@ -67,7 +67,7 @@ access_of s event m = access s event.kind event.task.0 (state_of m event.task.0)
 
 -- the call is accepted on this memory
 abbrev pub AcceptedIn : Settings → Event → Memory → Type 0
-AcceptedIn s event m = T (isAccepted (call s event m).answer)
+AcceptedIn s event m = T (is_accepted (call s event m).answer)
 
 -- it reads a register
 abbrev pub reads : Access → Bool

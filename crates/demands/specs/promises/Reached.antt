@@ -6,7 +6,7 @@
 use mathlib.Core.{Path.◌≡◌, Logic.◌↔◌, List.List}
 use Rattle.std.specs.Prelude.{ℕ, ◌+◌, ◌*◌, ◌/◌, ◌≤◌, ◌<◌, T}
 use Rattle.machine.specs.{Settings.bound, Records.idle, promises.Ranges.WithinLimits}
-use Rattle.demands.specs.{Memory.{Memory, record_of, turns_in}, Answers.isAccepted, Calls.{call, setup, turn}}
+use Rattle.demands.specs.{Memory.{Memory, record_of, turns_in}, Answers.is_accepted, Calls.{call, setup, turn}}
 use Rattle.demands.specs.promises.{Demands.{SetUp, memory_after, HoldsName, Seeks}, OneAccess.AcceptedIn}
 use Rattle.demands.specs.promises.Refusing.{SomeRowShort, call_says}
 use Rattle.machine.specs.declared.{Settings.Settings, Kind.TheVariants.Release, Event.Event, Told.Told}
@@ -23,7 +23,7 @@ pub record Relied (s : Settings) (m : Memory) : Type 0 where
   pub names_differ : (p q n : ℕ) → p < s.n → q < s.n → HoldsName s m p n → HoldsName s m q n → p ≡ q
   pub names_below : (p n : ℕ) → p < s.n → HoldsName s m p n → n < s.k * (s.k + 1) / 2
   -- no turn of a seeker is refused, and its turns are fewer than the bound
-  pub seeker_accepted : (p : ℕ) → p < s.n → Seeks m p → T (isAccepted (call s (turn p) m).answer)
+  pub seeker_accepted : (p : ℕ) → p < s.n → Seeks m p → T (is_accepted (call s (turn p) m).answer)
   pub seeker_below : (p : ℕ) → p < s.n → Seeks m p → turns_in m p < bound s
   -- tests 1 to 3 pass: a refusal has to do with the task
   pub tests_pass : (event : Event) → 1 ≤ (call_says s event m).number → 4 ≤ (call_says s event m).number

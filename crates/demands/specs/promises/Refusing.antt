@@ -5,7 +5,7 @@ use mathlib.Core.{Path.◌≡◌, Logic.{◌⊎◌, ◌↔◌}, List.{List, [], 
 use Rattle.std.specs.Prelude.{ℕ, ◌≤◌, ◌<◌}
 use lib.{Dec.T, ListN.length}
 use Rattle.machine.specs.{Settings.width, Records.idle, RefusalNumbers.{Said, number_of}}
-use Rattle.demands.specs.{Memory.{Memory, mark_index, record_of, state_of}, Answers.{said, isAccepted, plain}}
+use Rattle.demands.specs.{Memory.{Memory, mark_index, record_of, state_of}, Answers.{said, is_accepted, plain}}
 use Rattle.demands.specs.Calls.{call, setup}
 use Rattle.machine.specs.promises.Ranges.{WithinLimits, seeks_or_holds}
 use Rattle.demands.specs.promises.Rows.{NeedsMore, OutOfRangeAt, SomeOutOfRange}
@@ -151,7 +151,7 @@ pub record RefusalExact : Type 0 where
   pub setups_show_none : (s : Settings) (m : Memory) → (setup s m).answer.shown ≡ Nothing
   -- an answer is an acceptance exactly if it has no number of refusal, and a refusal's number is the one that its
   -- answer has
-  pub acceptance : (answer : Answer) → T (isAccepted answer) ↔ ((said answer).number ≡ 0)
+  pub acceptance : (answer : Answer) → T (is_accepted answer) ↔ ((said answer).number ≡ 0)
   pub numbered : (why : Refusal) → number_of why ≡ (said (plain (Told.Refused why))).number
   -- "retire 6": no refusal has this number, so no answer of any call, of opening, of a reader or of a writer
   pub six_retired : (why : Refusal) → number_of why ≡ 6 → ⊥
