@@ -10,7 +10,7 @@ use Rattle.demands.specs.promises.{Refusing.SomeRowShort, Demands.SetUp, Reached
 use Rattle.machine.specs.declared.{Kind.Kind, Answer.Answer}
 use Rattle.demands.proofs.histories.{Reached.reached_promises, Notes.notes_kept}
 use Rattle.counting.proofs.Lists.{one_value}
-use Rattle.supervisor.specs.Desk.{board, memory_of, Kept, HasRow, RowsApart, KeptApart, OthersKeep, Served}
+use Rattle.supervisor.specs.Desk.{board, memory_of, Kept, HasRow, KeptApart, OthersKeep, Served}
 use Rattle.supervisor.specs.declared.Desk.{Desk}
 
 pub kept_apart : KeptApart
