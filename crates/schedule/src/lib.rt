@@ -136,7 +136,7 @@ impl<'a> Reader<'a> {
 // Asks a reader at a position of the file for its next event: the answer, and where the reader then
 // stands.
 pub fn read(file: &[u8], at: usize) -> Next
-    ensures { result ≡ next_of (reading file.now at) }
+    ensures answered { result ≡ next_of (reading file.now at) }
 {
     let mut reader = Reader { file, at };
     let answer = reader.next();
