@@ -21,6 +21,7 @@ pub struct Next {
 }
 
 // Whether one of the first n events has a code above 2.
+#[tactic(auto, using(crate::proofs::Codes::code_known))]
 fn bad_code(file: &[u8], n: usize) -> bool
     requires { file_length n ≤ length file.now }
     ensures { result ≡ any_below (code_bad file.now) n }
