@@ -21,6 +21,7 @@ pub struct Next {
 }
 
 // Whether one of the first n events has a code above 2.
+#[tactic(auto, using(crate::proofs::Codes::code_known))]
 fn bad_code(file: &[u8], n: usize) -> bool
     requires { file_length n ≤ length file.now }
     ensures { result ≡ any_below (code_bad file.now) n }
@@ -136,7 +137,7 @@ impl<'a> Reader<'a> {
 // Asks a reader at a position of the file for its next event: the answer, and where the reader then
 // stands.
 pub fn read(file: &[u8], at: usize) -> Next
-    ensures { result ≡ next_of (reading file.now at) }
+    ensures answered { result ≡ next_of (reading file.now at) }
 {
     let mut reader = Reader { file, at };
     let answer = reader.next();

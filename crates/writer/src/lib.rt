@@ -10,6 +10,7 @@ ghost use Rattle.text.specs.Put.{put};
 use machine::Settings;
 
 // Whether some event number has a code above 2.
+#[tactic(auto, using(crate::proofs::Codes::code_known))]
 pub fn bad_number(events: &[u32]) -> bool
     ensures { result ≡ any_below (number_bad events.now) (length events.now) }
 {

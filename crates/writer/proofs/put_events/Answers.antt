@@ -1,10 +1,8 @@
 -- Before the first event nothing is put; event i has a code of 0 to 2, and is put behind those before it.
 use Rattle.std.proofs.Common.{◌∙◌, sym, rules, arith}
-use borrow.Author.Tests.{ltb-false}
-use Rattle.counting.proofs.Some.{none_below}
-use Rattle.file.specs.File.{number_bad}
 use Rattle.text.proofs.Putting.{put_nothing}
 use Rattle.writer.proofs.Bytes.{put_more}
+use Rattle.writer.proofs.Codes.{code_known}
 use Rattle.writer.proofs.put_events.Goals as goal
 
 pub loop-i-init : goal.loop-i-init
@@ -12,8 +10,7 @@ loop-i-init c = (search rules, sym (put_nothing _ 11))
 
 pub put_event-requires : goal.put_event-requires
 put_event-requires c =
-    let bad = number_bad c.args.events.now in
-    (omega arith, ltb-false _ _ (none_below bad _ c.requires.events_value _ c.loop-i-test.true))
+    (omega arith, code_known c.args.events.now _ _ c.requires.events_value c.loop-i-test.true)
 
 pub loop-i-preserved : goal.loop-i-preserved
 loop-i-preserved c =
