@@ -70,6 +70,7 @@ fn search_marks(s: Settings, marks: &[u8]) -> usize
 
 // The index of the first needed mark that is out of range; their count where none is. The search
 // is skipped where no mark is above 1.
+#[tactic(auto, using(crate::proofs::Finding::bad_mark_found))]
 pub fn bad_mark(s: Settings, marks: &[u8]) -> usize
     requires { T (permitted s) × (marks_needed s ≤ length marks.now) }
     ensures { result ≡ bad_mark s marks.now }
