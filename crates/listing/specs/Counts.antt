@@ -2,7 +2,7 @@
 use mathlib.Core.{Bool.Bool, List.List}
 use Rattle.std.specs.Prelude.{ℕ, get_or}
 use Rattle.machine.specs.Records.{idle, is_holding, is_out}
-use Rattle.machine.specs.declared.{Settings.Settings, State.State, Record.Record}
+use Rattle.machine.specs.declared.{State.State, Record.Record}
 use Rattle.counting.specs.Counting.{count}
 use Rattle.listing.specs.declared.Who.{Who, TheVariants.{Holders, Out}}
 
