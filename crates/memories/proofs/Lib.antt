@@ -1,4 +1,0 @@
--- What the proofs of the lenders share.
-mod Functions
-mod Locals
-mod Lenders
