@@ -102,7 +102,7 @@ pub fn release(
 }
 
 // ---- the same for callers that keep 256 records by value: they are lent to the calls above and come
-// back, so that whoever calls these needs no walk
+// back
 
 // Records for a board of any size, all idle: what a new supervisor begins with.
 pub fn idle_records() -> [Record; 256]

@@ -1,6 +1,5 @@
 // The lent row of records, reached by few thin functions: the length, one record out, one back, one
-// pass, and what a call sees. Each has the row among its locals, so each is walked by hand; what is
-// decided of a record is decided by value.
+// pass, and what a call sees. What is decided of a record is decided by value.
 
 #![tactic(auto)]
 

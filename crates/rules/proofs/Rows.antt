@@ -29,7 +29,7 @@ lent_passes s seen m rest e =
 
 -- ---- the verdicts by their parts
 
--- a first verdict, and if it seen_passed, a second
+-- a first verdict, and if it passed, a second
 abbrev pub then : Verdict → Verdict → Verdict
 then Verdict.Accepted later = later
 then (Verdict.Refused why) later = Verdict.Refused why

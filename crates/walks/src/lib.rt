@@ -1,3 +1,3 @@
-#![tactic(auto)]
-
 // No function: what every walk over lent records shares is in `proofs/`.
+
+#![tactic(auto)]

@@ -7,7 +7,7 @@ use Rattle.machine.specs.Records.{is_seeking}
 use Rattle.demands.specs.Memory.{Memory, state_of}
 use Rattle.demands.specs.Calls.{Outcome, event_of, name_at, standing, freed, told_of, next_state, call}
 use Rattle.demands.specs.Answers.{told_said, Tells}
-use Rattle.demands.specs.promises.{Demands.Seeks, OneAccess.AcceptedIn, Telling.EachAnswerTells}
+use Rattle.demands.specs.promises.{OneAccess.AcceptedIn, Telling.EachAnswerTells}
 use Rattle.machine.specs.declared.{Settings.Settings, State.{State, TheVariants.{Idle, Seeking, Holding}}, Place.Place}
 use Rattle.machine.specs.declared.{Record.Record, Kind.{Kind, TheVariants.{Ask, Turn, Release}}, Told.Told}
 use Rattle.machine.specs.declared.Answer.{Answer}

@@ -3,12 +3,12 @@
 use mathlib.Core.{Path.{◌≡◌, refl, sym, ap, subst, ◌∙◌}, Logic.◌↔◌, Bool.true≢false, List.List}
 use Prim.Native.Nat.{ℕ, ◌+◌, ◌<◌}
 use native.Mathlib.{Decide.ℕ_discrete, Omega.arith}
-use lib.{Dec.T, ListN.{length, get_or, set}, Seq.{get_or-set_same, get_or-set_other}}
+use lib.{Dec.T, ListN.{length, get_or}, Seq.{get_or-set_same, get_or-set_other}}
 use Rattle.machine.specs.Records.{idle, is_idle}
 use Rattle.demands.specs.{Memory.{Memory, state_of}, Answers.told_accepted}
 use Rattle.demands.specs.Calls.{Outcome, refuse_or, verdict_of, call, setup}
-use Rattle.demands.specs.promises.{Demands.{SetUp, HoldsName}, OneAccess.AcceptedIn}
-use Rattle.demands.specs.promises.Notes.{noted, Noted, Agree, notes_after, NotesKept, EachNotesKept}
+use Rattle.demands.specs.promises.{Demands.{HoldsName}, OneAccess.AcceptedIn}
+use Rattle.demands.specs.promises.Notes.{noted, Noted, Agree, notes_after, EachNotesKept}
 use Rattle.machine.specs.declared.{Settings.Settings, Record.Record, Event.Event, Verdict.Verdict, Told.Told}
 use Rattle.demands.proofs.refusals.Refusing.{ruled, ruled_accepted}
 use Rattle.demands.proofs.calls.{Fresh.fresh_idle, SettingUp.setup_clears}
