@@ -10,7 +10,7 @@ use machine::Writing;
 use std::io::{Read, Write};
 
 // How the reading of standard input ended: with so many bytes read, or with a read that failed.
-#[derive(Drop)]
+#[derive(Clone, Copy)]
 enum Input {
     Read(usize),
     Failed,

@@ -17,7 +17,7 @@ const STDOUT_FILENO: i32 = 1;
 
 // A case but for its rows: what is called (0 ask, 1 turn, 2 release, 3 setup), the settings, the task,
 // and how many records are lent.
-#[derive(Drop)]
+#[derive(Clone, Copy)]
 struct Case {
     code: u8,
     settings: Settings,

@@ -109,7 +109,7 @@ pub fn event_at(file: &[u8], at: usize) -> Next
 }
 
 // A reader stays with the lent file and keeps the position of its next event.
-#[derive(Drop)]
+#[derive(Clone, Copy)]
 pub struct Reader<'a> {
     file: &'a [u8],
     at: usize,

@@ -18,7 +18,7 @@ const STDOUT_FILENO: i32 = 1;
 // What the supervisor keeps, by value: the memory that it lends to the calls, for each channel the row
 // that it has (its number and one more, 0 for none), the table, a total for each name, and what was
 // told last.
-#[derive(Drop)]
+#[derive(Clone, Copy)]
 struct Desk {
     records: [Record; 256],
     xs: [u32; 1],

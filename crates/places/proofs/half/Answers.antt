@@ -10,12 +10,12 @@ abbrev values : (ℕ → ℕ) → ℕ → List ℕ
 values f zero = []
 values f (suc n) = f 0 ∷ values (λ r. f (suc r)) n
 
-value-at : (f : ℕ → ℕ) (n r : ℕ) → r < n → get_or (values f n) r 0 ≡ f r
-value-at f zero r low = absurd (not-suc-le-zero low)
-value-at f (suc n) zero low = refl
-value-at f (suc n) (suc r) low = value-at (λ i. f (suc i)) n r (le_of_suc-le-suc low)
+value_at : (f : ℕ → ℕ) (n r : ℕ) → r < n → get_or (values f n) r 0 ≡ f r
+value_at f zero r low = absurd (not-suc-le-zero low)
+value_at f (suc n) zero low = refl
+value_at f (suc n) (suc r) low = value_at (λ i. f (suc i)) n r (le_of_suc-le-suc low)
 
 -- the table is `values half 17`, computed
 pub returns : goal.returns
 unfolding half
-returns c = value-at half 17 c.args.r (search rules)
+returns c = value_at half 17 c.args.r (search rules)
