@@ -19,7 +19,8 @@ import sys
 import tempfile
 
 HERE = os.path.dirname(os.path.realpath(__file__))
-PORT = "/opt/rattle/port/port.py"
+KIT = os.path.dirname(subprocess.run(["rt", "doc"], check=True, capture_output=True, text=True).stdout.strip())
+PORT = os.path.join(KIT, "port", "port.py")
 
 
 def read(path):
