@@ -101,8 +101,7 @@ pub fn release(
     step(s, records, xs, marks, event)
 }
 
-// ---- the same for callers that keep 256 records by value: they are lent to the calls above and come
-// back
+// ---- the same for callers that keep 256 records by value: lent to the calls above, and given back
 
 // Records for a board of any size, all idle: what a new supervisor begins with.
 pub fn idle_records() -> [Record; 256]

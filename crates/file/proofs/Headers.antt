@@ -85,7 +85,8 @@ pub file_accepted : (file : List ℕ) (s : Settings) (count : ℕ) → opening f
     → Accepts file s count
 file_accepted file s count e = go (open_verdict file) refl e
   where
-    go : (v : Verdict) → open_verdict file ≡ v → opening_by v (settings_of file) (count_of file) ≡ Opening.Opened s count
+    go : (v : Verdict) → open_verdict file ≡ v
+        → opening_by v (settings_of file) (count_of file) ≡ Opening.Opened s count
         → Accepts file s count
     go Accepted is e =
         let parts = first_both (header_cases file []) (code_cases file) is in

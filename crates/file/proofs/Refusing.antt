@@ -68,7 +68,8 @@ module _ (file : List ℕ) where
 
   opening_told : OpeningTold file
   opening_told = record {
-    exactly = refused_exactly open_says refl (λ why. refl) (header_cases file (code_cases file)) (open_lines file) open_are;
+    exactly =
+        refused_exactly open_says refl (λ why. refl) (header_cases file (code_cases file)) (open_lines file) open_are;
     answers = λ accepted. ap (λ (v : Verdict). opening_by v (settings_of file) (count_of file)) (opened accepted);
     values = λ accepted. ap (λ (v : Verdict). (open_says v).values) (opened accepted);
   }

@@ -12,7 +12,8 @@ use Rattle.machine.specs.promises.Ranges.{WithinLimits}
 use Rattle.machine.specs.declared.{Settings.Settings, Verdict.{Verdict, TheVariants.Accepted}, Opening.Opening}
 use Rattle.machine.specs.declared.Reading.{Reading}
 use Rattle.counting.{specs.Counting.any_below, proofs.Some.{none_below, each_none}}
-use Rattle.file.specs.File.{most_events, write_cases, event_number, reading_said, writing_said, file_length, settings_of}
+use Rattle.file.specs.File.{most_events, write_cases, event_number, reading_said, writing_said, file_length}
+use Rattle.file.specs.File.{settings_of}
 use Rattle.file.specs.File.{count_of, code_at, event_at, code_bad, header_cases, opening, Read, reading, header_bytes}
 use Rattle.file.specs.File.{code_in, event_bytes, events_bytes, file_bytes, number_bad, write_verdict, written_by}
 use Rattle.file.specs.File.{writing, version_of}
@@ -90,7 +91,8 @@ module _ (s : Settings) (numbers : List ℕ) (good : Writable s numbers) where
 
   number_back : (i : ℕ) → i < length numbers → event_number (event_at file i) ≡ get_or numbers i 0
   number_back i l =
-      let low : get_or file (file_length i + 1) 0 ≡ get_or numbers i 0 % 256 = file_byte s numbers i 1 l (omega arith) in
+      let low : get_or file (file_length i + 1) 0 ≡ get_or numbers i 0 % 256 =
+      file_byte s numbers i 1 l (omega arith) in
       let place : file_length i + 1 + 1 ≡ file_length i + 2 = omega arith in
       let high : get_or file (file_length i + 1 + 1) 0 ≡ get_or numbers i 0 / 256 % 256 =
       ap (λ (m : ℕ). get_or file m 0) place ∙ file_byte s numbers i 2 l (omega arith) in

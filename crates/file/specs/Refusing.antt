@@ -70,7 +70,8 @@ write_lines s numbers room =
 -- "Opening answers the settings and the count."
 pub record OpeningTold (file : List ℕ) : Type 0 where
   pub exactly : RefusedExactly (opening_said (opening file)) (open_lines file)
-  pub answers : (opening_said (opening file)).number ≡ 0 → opening file ≡ Opening.Opened (in_header file) (sixteen file 9)
+  pub answers : (opening_said (opening file)).number ≡ 0
+      → opening file ≡ Opening.Opened (in_header file) (sixteen file 9)
   pub values : (opening_said (opening file)).number ≡ 0
       → (opening_said (opening file)).values
       ≡ byte file 5 ∷ sixteen file 6 ∷ byte file 8 ∷ sixteen file 3 ∷ sixteen file 9 ∷ []

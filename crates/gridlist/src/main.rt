@@ -16,7 +16,7 @@ enum Input {
     Failed,
 }
 
-// Reads standard input to its end, or as far as the buffer holds.
+// Reads `from`, which is standard input, to its end, or as far as the buffer holds.
 fn read_input(mut from: impl Read + Drop, input: &mut [u8]) -> Input {
     let mut n = 0;
     while n < input.len() {

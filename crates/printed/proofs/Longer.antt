@@ -11,7 +11,8 @@ use Rattle.machine.specs.declared.Refusal.{Refusal}
 use Rattle.machine.specs.declared.Refusal.TheVariants.{Limits, FileLength, Letters, Version, TooManyEvents, EventCode}
 use Rattle.machine.specs.declared.Verdict.{Verdict, TheVariants.Refused}
 use Rattle.counting.specs.Counting.{any_below}
-use Rattle.file.specs.File.{most_events, file_length, byte_at, letters_right, version_of, settings_of, count_of, code_bad}
+use Rattle.file.specs.File.{most_events, file_length, byte_at, letters_right, version_of, settings_of, count_of}
+use Rattle.file.specs.File.{code_bad}
 use Rattle.file.specs.File.{open_verdict, opening_by}
 use Rattle.printed.specs.Listing.{refused_line, listing_by, listing}
 
@@ -62,7 +63,8 @@ why_same whole most long =
     search (rules, same)
 
 -- as much of the input as such a buffer holds has the listing of the whole
-pub part_listed : (whole : List ℕ) (most : ℕ) → file_length most_events < most → listing (take most whole) ≡ listing whole
+pub part_listed : (whole : List ℕ) (most : ℕ) → file_length most_events < most
+    → listing (take most whole) ≡ listing whole
 part_listed whole most long = go (ltb (length whole) most) refl
   where
     go : (shorter : Bool) → ltb (length whole) most ≡ shorter → listing (take most whole) ≡ listing whole

@@ -161,7 +161,8 @@ module _ (s : Settings) (lent : Memory) (ok : SetUp s lent) (one_time : s.mode �
       ∙ scan_marked s q 0 0 0 (get_or m₇.marks (mark_index s (block_number s 0 0) 0) 0) e)
 
   -- the eight calls
-  all_heard : Heard s (acquires p 4 ++ acquires q 2) m₀ (served_at 4 (name_number s 0 0) ++ served_at 2 (name_number s 0 1))
+  all_heard :
+      Heard s (acquires p 4 ++ acquires q 2) m₀ (served_at 4 (name_number s 0 0) ++ served_at 2 (name_number s 0 1))
   all_heard =
       heard start asks at_start
       (heard (Seeking (block 0 0 (Scan 0))) writes refl

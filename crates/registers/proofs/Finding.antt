@@ -32,7 +32,8 @@ module _ (row : List ℕ) (limit n : ℕ) where
       }))
 
   pub stops_at_none : Low row limit n → n ≡ first_above row limit n
-  stops_at_none low = sym (none_bad (λ j. leb (get_or row j 0) limit) n (λ j h. le→leb (get_or row j 0) limit (low j h)))
+  stops_at_none low =
+      sym (none_bad (λ j. leb (get_or row j 0) limit) n (λ j h. le→leb (get_or row j 0) limit (low j h)))
 
 -- either none of the first n is above the limit, or the one that is found is
 pub first_above_found : (row : List ℕ) (limit n : ℕ)

@@ -1,5 +1,5 @@
--- Setup, a further setup and a call keep what the supervisor keeps, by what the library promises its callers: the memory
--- stays reached (`Reached`) and the notes agree (`Notes`). So no two channels have one row.
+-- Setup, a further setup and a call keep what the supervisor keeps, by what the library promises its callers: the
+-- memory stays reached (`Reached`) and the notes agree (`Notes`). So no two channels have one row.
 use mathlib.Core.{Path.{◌≡◌, refl, sym, ap, subst, ◌∙◌}, Logic.{inl, inr}, List.List}
 use Prim.Native.Nat.{ℕ, ◌-◌, ◌<◌}
 use native.Mathlib.Omega.{arith}

@@ -223,8 +223,9 @@ module _ (s : Settings) (lent : Memory) (ok : SetUp s lent) where
   pub fresh_invariants : (m : ℕ) → Invariants s (setup_within s lent ok) m (setup s lent).memory
   fresh_invariants m = record {
     fit = fresh_fit s lent ok;
-    spent = λ q l. subst (λ (state : State). (spending s (setup_within s lent ok)).Spent state (turns_in (setup s lent).memory q))
-        (sym (fresh_idle s lent ok q l)) ((spending s (setup_within s lent ok)).idles (turns_in (setup s lent).memory q));
+    spent = λ q l. let used = turns_in (setup s lent).memory q in
+        let spends = spending s (setup_within s lent ok) in
+        subst (λ (state : State). spends.Spent state used) (sym (fresh_idle s lent ok q l)) (spends.idles used);
     invariant = idle_invariant s (setup_within s lent ok) m (grid_of s (setup s lent).memory)
         (λ q l. ap (stand_of (width s)) (fresh_idle s lent ok q l)) fresh_unmarked;
   }

@@ -26,10 +26,12 @@ module _ (s : Settings) (lent : Memory) (events : List Event) (ok : SetUp s lent
   pub held_place : (p : ℕ) (place : Place) → p < s.n → state_of (memory_after s lent events) p ≡ Holding place
       → PlaceWithin s place
   held_place p place l e =
-      let there : T (state_in_range s (state_of (memory_after s lent events) p)) = fine.invariants.fit.in_range.records p l in
+      let there : T (state_in_range s (state_of (memory_after s lent events) p)) =
+      fine.invariants.fit.in_range.records p l in
       (place_line s fair place).says (rw e at there)
 
-  pub one_place : (p q : ℕ) (place : Place) → p < s.n → q < s.n → state_of (memory_after s lent events) p ≡ Holding place
+  pub one_place : (p q : ℕ) (place : Place) → p < s.n → q < s.n
+      → state_of (memory_after s lent events) p ≡ Holding place
       → state_of (memory_after s lent events) q ≡ Holding place
       → (q ≡ p → ⊥) → ⊥
   one_place p q place lp lq hp hq =

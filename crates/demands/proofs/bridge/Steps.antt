@@ -78,7 +78,8 @@ module _ (s : Settings) (l : WithinLimits s) (m : Memory) (h : Fit s m) (p : ℕ
     effect : Effect
     x_change : XChange effect p (grid_of s m) (grid_of s (accept s kind p state m).memory)
     mark_change : MarkChange effect (own s p) (grid_of s m) (grid_of s (accept s kind p state m).memory)
-    move : Move rules p (grid_of s m) (stand_of (width s) state) effect (stand_of (width s) (next_state s kind p state m))
+    move :
+        Move rules p (grid_of s m) (stand_of (width s) state) effect (stand_of (width s) (next_state s kind p state m))
 
   own_mark : own s p < width s
   own_mark = own_below s l p below
@@ -120,7 +121,8 @@ module _ (s : Settings) (l : WithinLimits s) (m : Memory) (h : Fit s m) (p : ℕ
       go (no d) = subst To (reads_other s p r c seen d)
           (loses refl (λ t. d (sym (x_on_block s m.xs r c b) ∙ t)) (leaves s l r c Down b))
 
-  turn_moved : (r c : ℕ) (point : Point) → r + c + 2 ≤ s.k → T (point_in_range s point) → Moved Turn (Seeking (block r c point))
+  turn_moved : (r c : ℕ) (point : Point) → r + c + 2 ≤ s.k → T (point_in_range s point)
+      → Moved Turn (Seeking (block r c point))
   turn_moved r c WriteX b t = record {
     effect = writes_x r c;
     x_change = x_put s l m (accept s Turn p (Seeking (block r c WriteX)) m).memory r c (p + 1) b h.long.xs refl;

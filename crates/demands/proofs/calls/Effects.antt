@@ -228,7 +228,8 @@ module _ (s : Settings) (event : Event) (m : Memory) (t : AcceptedIn s event m) 
 
   shows : (a : Access) → access_of s event m ≡ a → Shows s event m (shown_by a (value s a m))
   shows NoAccess is = none_is is
-  shows (Touch register Read) is = subst (Shows s event m) (read_shown register (content s register m)) (read_is register is)
+  shows (Touch register Read) is =
+      subst (Shows s event m) (read_shown register (content s register m)) (read_is register is)
   shows (Touch register (Write v)) is =
       subst (Shows s event m) (write_shown register v (value s (Touch register (Write v)) m)) (written_is register v is)
 

@@ -7,9 +7,11 @@ use native.Mathlib.{Decide.{dec_le, ℕ_discrete}, Omega.arith}
 use lib.{Dec.{T, leb, ltb→lt, le→leb, lt→ltb, lit≤}, ListN.{get_or, set, length-set}}
 use borrow.Author.Tests.{eq-eqb}
 use Rattle.machine.specs.{Settings.width, Records.{idle, point_in_range, state_in_range, turns_in_range}}
-use Rattle.machine.specs.{Grid.{point_access, arrive, move, leave, point_turned}, Turn.{stand_access, access, turns_after}}
+use Rattle.machine.specs.Grid.{point_access, arrive, move, leave, point_turned}
+use Rattle.machine.specs.Turn.{stand_access, access, turns_after}
 use Rattle.machine.specs.Places.{block}
-use Rattle.demands.specs.Memory.{Memory, mark_index, state_of, turns_in, with_record, with_x, with_mark, put, x_in_range}
+use Rattle.demands.specs.Memory.{Memory, mark_index, state_of, turns_in, with_record, with_x, with_mark, put}
+use Rattle.demands.specs.Memory.{x_in_range}
 use Rattle.demands.specs.{Memory.mark_in_range, Touching.{value, store}, Refusals.wrong_moment}
 use Rattle.demands.specs.Calls.{next_state, record_after, accept}
 use Rattle.machine.specs.declared.{Settings.Settings, Direction.{Direction, TheVariants.{Right, Down}}}

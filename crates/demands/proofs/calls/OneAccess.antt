@@ -74,7 +74,8 @@ module _ (s : Settings) (l : WithinLimits s) (p : ℕ) (low : p < s.n) where
   access_needed Release (Holding place) good = release_needed place
 
 -- of a call that passed its tests
-pub call_needed : (s : Settings) (event : Event) (m : Memory) → Passed s event m → RegisterNeeded s (access_of s event m)
+pub call_needed : (s : Settings) (event : Event) (m : Memory) → Passed s event m
+    → RegisterNeeded s (access_of s event m)
 call_needed s event m h = access_needed s h.limits event.task.0 h.may.known event.kind
     (state_of m event.task.0)
     (h.fit.in_range.records event.task.0 h.may.known)

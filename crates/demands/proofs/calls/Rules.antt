@@ -6,7 +6,8 @@ use native.Mathlib.{Decide.ℕ_discrete, Omega.arith}
 use lib.{Dec.{T, leb→le, ltb→lt, eqb→eq}, ListN.get_or}
 use borrow.Author.Tests.{le-leb, lt-leb, eqb-false}
 use Rattle.machine.specs.{Settings.{width, own}, Places.{block_number, block, cell}}
-use Rattle.machine.specs.{Records.{point_in_range, state_in_range}, Grid.{point_access, arrive, move, leave, point_turned}}
+use Rattle.machine.specs.Records.{point_in_range, state_in_range}
+use Rattle.machine.specs.Grid.{point_access, arrive, move, leave, point_turned}
 use Rattle.machine.specs.Turn.{shown_by}
 use Rattle.demands.specs.{Memory.{Memory, mark_index, state_of, with_mark}, Touching.{value, store}}
 use Rattle.demands.specs.{Calls.{Outcome, accept, call, event_of, ask, turn, release}, Refusals.wrong_moment}
@@ -83,7 +84,8 @@ module _ (s : Settings) (long : s.mode ≡ 1) (p : ℕ) (m : Memory) (r c : ℕ)
 
   -- the own mark, written: what the line says is shown and left
   own_written_long : (v : ℕ) (to : State) (turns : ℕ)
-      → stands_at s p to turns (wrote_mark s r c (own s p) v) (with_mark (mark_index s (block_number s r c) (own s p)) v m)
+      → stands_at s p to turns (wrote_mark s r c (own s p) v)
+      (with_mark (mark_index s (block_number s r c) (own s p)) v m)
       ≡ stands_at s p to turns (wrote_mark s r c p v) (with_mark (mark_of s r c p) v m)
   own_written_long v to turns =
       λ i. stands_at s p to turns (wrote_mark s r c (own_long_lived s p long i) v) (with_mark (own_mark_long i) v m)
@@ -116,7 +118,8 @@ module _ (s : Settings) (once : s.mode ≡ 0) (p : ℕ) (m : Memory) (r c : ℕ)
   mark_shown_once v e = ap (read_mark s r c 0) (mark_read_once v e)
 
   own_written_once : (v : ℕ) (to : State) (turns : ℕ)
-      → stands_at s p to turns (wrote_mark s r c (own s p) v) (with_mark (mark_index s (block_number s r c) (own s p)) v m)
+      → stands_at s p to turns (wrote_mark s r c (own s p) v)
+      (with_mark (mark_index s (block_number s r c) (own s p)) v m)
       ≡ stands_at s p to turns (wrote_mark s r c 0 v) (with_mark (block_number s r c) v m)
   own_written_once v to turns =
       λ i. stands_at s p to turns (wrote_mark s r c (own_one_time s p once i) v) (with_mark (own_mark_once i) v m)
@@ -157,7 +160,8 @@ follows_the_rules s p m Turn t to (long_write_mark {r} {c} long at) =
 follows_the_rules s p m Turn t to (once_write_mark {r} {c} once at) =
     turned_at s p m r c WriteMark t at ∙ own_written_once s once p m r c 1 (Seeking (block r c ReadX)) _
 follows_the_rules s p m Turn t to (read_x_own {r} {c} at e) =
-    turned_to s p m r c ReadX (Holding (cell r c)) _ t at (turning.reads_own s p r c (x_of s m r c) e) (ap (read_x s r c) e)
+    turned_to s p m r c ReadX (Holding (cell r c)) _ t at (turning.reads_own s p r c (x_of s m r c) e)
+    (ap (read_x s r c) e)
 follows_the_rules s p m Turn t to (long_read_x_other {r} {c} long at other) =
     turned_to s p m r c ReadX (Seeking (block r c (Clear Down))) _ t at
     (leave_long s long p m r c Down ∙ turning.reads_other s p r c _ other) refl
@@ -272,7 +276,8 @@ module _ (s : Settings) (p : ℕ) (m : Memory) where
 
   -- ---- a release
 
-  release_spoken : AcceptedIn s (release p) m → (r c : ℕ) → s.mode ≡ 1 → state_of m p ≡ Holding (cell r c) → r + c + 1 ≤ s.k
+  release_spoken : AcceptedIn s (release p) m → (r c : ℕ) → s.mode ≡ 1 → state_of m p ≡ Holding (cell r c)
+      → r + c + 1 ≤ s.k
       → Says s p m Release (call s (release p) m)
   release_spoken t r c long held within = go (ℕ_discrete (r + c + 1) s.k)
     where

@@ -23,8 +23,10 @@ pub record Spending (s : Settings) : Type 1 where
   pub turns_on : (m : Memory) → Fit s m → (p t : ℕ) → p < s.n → wrong_moment Turn (state_of m p) ≡ false
       → Spent (state_of m p) t → Spent (next_state s Turn p (state_of m p) m) (t + 1)
   -- and they are few
-  pub seeking : (state : State) (t : ℕ) → T (state_in_range s state) → T (is_seeking state) → Spent state t → t < bound s
-  pub holding : (state : State) (t : ℕ) → T (state_in_range s state) → T (is_holding state) → Spent state t → t ≤ bound s
+  pub seeking : (state : State) (t : ℕ) → T (state_in_range s state) → T (is_seeking state) → Spent state t
+      → t < bound s
+  pub holding : (state : State) (t : ℕ) → T (state_in_range s state) → T (is_holding state) → Spent state t
+      → t ≤ bound s
 
 -- ---- who turns
 

@@ -22,7 +22,8 @@ use Rattle.demands.proofs.bridge.{Histories.fresh_invariants, Spending.seeks_at}
 use Rattle.demands.proofs.histories.Served.{always_spent, served_alone}
 use Rattle.machine.proofs.bridge.{AsRules.rules_of, Numbering.{triangle_half, by_diagonals}}
 use Rattle.counting.proofs.Counting.{count_one}
-use Rattle.grid.proofs.{Stands.{at, unless_least, own_x, row_reach, column_reach}, Covered.covered_near, Triangle.diagonals}
+use Rattle.grid.proofs.Stands.{at, unless_least, own_x, row_reach, column_reach}
+use Rattle.grid.proofs.{Covered.covered_near, Triangle.diagonals}
 use Rattle.grid.specs.Triangle.{diagonal_number}
 use Rattle.grid.proofs.Spent.{cost, Within, seeking_near, holding_near}
 
@@ -161,7 +162,8 @@ pub light_names_below : LightNamesBelow
 light_names_below s lent events m ok never two p n l h =
     let stands = light_stands_near s lent events m ok never p l in
     let near : StandsNear m (Holding h.place) = rw h.holds at stands in
-    let some = some_out s (setup_within s lent ok) m (memory_after s lent events) (always_light s lent m ok events never)
+    let light = always_light s lent m ok events never in
+    let some = some_out s (setup_within s lent ok) m (memory_after s lent events) light
     p l (rw h.holds tt) in
     let named : n ≡ diagonal_number h.place.r h.place.c =
     h.named ∙ ap (λ (number : ℕ → ℕ → ℕ). number h.place.r h.place.c) (by_diagonals s (λ one. omega arith)) in

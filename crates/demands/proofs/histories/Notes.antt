@@ -77,7 +77,8 @@ module _ (s : Settings) (event : Event) (m : Memory) (notes : List ℕ) (long : 
       go (yes its) =
           subst (λ (q : ℕ). Noted (notes_after s event m notes) q n ↔ HoldsName s (call s event m).memory q n) (sym its)
           (same_agree s (call s event m).memory (call s event m).memory task n _ _
-          (get_or-set_same notes task (note_of (call s event m)) 0 long) refl (own_kept n (subst (λ (q : ℕ). q < s.n) its l)))
+          (get_or-set_same notes task (note_of (call s event m)) 0 long) refl
+          (own_kept n (subst (λ (q : ℕ). q < s.n) its l)))
       go (no other) =
           same_agree s m (call s event m).memory p n _ _
           (get_or-set_other notes task p (note_of (call s event m)) 0 other)

@@ -182,14 +182,16 @@ module _ (s : Settings) (lent : Memory) (ok : SetUp s lent) (p : ℕ) (l : p < s
     abbrev HoldsWithin : List Event → Type 0
     HoldsWithin events =
         (more : ℕ) × (used s lent events p + more ≤ most)
-        × HoldsSome (memory_after s lent (events ++ turns more p)) p × Kept (memory_after s lent (events ++ turns more p))
+        × HoldsSome (memory_after s lent (events ++ turns more p)) p
+        × Kept (memory_after s lent (events ++ turns more p))
 
     served_left : (left : ℕ) (events : List Event) → Kept (memory_after s lent events)
         → most ≤ used s lent events p + left
         → Seeks (memory_after s lent events) p → HoldsWithin events
     served_left zero events kept b seeks = absurd (let z = fewer events kept seeks in omega arith)
     served_left (suc left) events kept b seeks =
-        ⊎_elim (λ again. on (served_left left (and_turn events) still (omega (arith, one_more_used events seeks)) again))
+        ⊎_elim
+        (λ again. on (served_left left (and_turn events) still (omega (arith, one_more_used events seeks)) again))
         (λ holds. (1, (let z = fewer events kept seeks in omega arith), holds, still)) (seeks_or_holds events seeks)
       where
         still : Kept (memory_after s lent (and_turn events))

@@ -165,7 +165,8 @@ module _ (s : Settings) (fair : WithinLimits s) where
   row_done : (n r : ℕ) → r + 2 ≤ s.k → suc n < s.n → (m : Memory) → InOrder s fair m → Unmarked r m
       → ((q : ℕ) → q < suc (suc n) → state_of m q ≡ Seeking (block r 0 WriteX)) → RowDone (suc n) r m
   row_done n r b l m f clean all =
-      let first = laps (λ _. Unmarked r) (Seeking (block r 0 WriteX)) (Seeking (block r 0 WriteMark)) (turns (suc (width s))) (suc n)
+      let first = laps (λ _. Unmarked r) (Seeking (block r 0 WriteX)) (Seeking (block r 0 WriteMark))
+      (turns (suc (width s))) (suc n)
       (λ p m₁ h f₁ clean₁ is. lap_keeps (λ _ kept. kept.0) (first_lap r p b (omega arith) m₁ f₁ clean₁ is))
       m f clean (λ q h. all q (omega arith)) in
       let m₁ : Memory = (accept s Turn (suc n) (Seeking (block r 0 WriteX)) first.last).memory in
@@ -175,7 +176,8 @@ module _ (s : Settings) (fair : WithinLimits s) where
         λ i place h. first.keeps i place (omega arith),
         (x_put s fair first.last m₁ r 0 (suc n + 1) (omega arith) first.fine.invariants.fit.long.xs refl).here,
       ) in
-      let second = laps (λ _. Lost r (suc n)) (Seeking (block r 0 WriteMark)) (arrive s (r + 1) 0) (turns (s.mode + 2)) (suc n)
+      let second = laps (λ _. Lost r (suc n)) (Seeking (block r 0 WriteMark)) (arrive s (r + 1) 0)
+      (turns (s.mode + 2)) (suc n)
       (λ p m₂ h. second_lap r (suc n) p b h (omega arith) m₂) m₁ stays.fine lost
       (λ q h. stays.others q (λ d. omega arith) ∙ first.theirs q h) in
       record {

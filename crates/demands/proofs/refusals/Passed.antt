@@ -32,7 +32,8 @@ pub record InRange (s : Settings) (m : Memory) : Type 0 where
 pub record_in_range_lem : (s : Settings) (m : Memory) → InRange s m → (p : ℕ) → p < s.n
     → T (record_in_range s (record_of m p))
 record_in_range_lem s m h p l =
-    and_in (state_in_range s (state_of m p)) (turns_in_range s (state_of m p) (turns_in m p)) (h.records p l) (h.turns p l)
+    and_in (state_in_range s (state_of m p)) (turns_in_range s (state_of m p) (turns_in m p)) (h.records p l)
+    (h.turns p l)
 
 -- J0: both, so that tests 2 and 3 pass
 pub record Fit (s : Settings) (m : Memory) : Type 0 where

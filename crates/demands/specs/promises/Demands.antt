@@ -75,7 +75,8 @@ HeldNamesBelow =
 abbrev pub LastAnswerTrue : Type 0
 LastAnswerTrue =
     (s : Settings) (lent : Memory) (events : List Event) → SetUp s lent → (p : ℕ) → p < s.n
-    → TrueOf s (state_of (memory_after s lent events) p) (last_answer p (history_of s lent events) (plain Told.Done)).told
+    → TrueOf s (state_of (memory_after s lent events) p)
+    (last_answer p (history_of s lent events) (plain Told.Done)).told
 
 -- the name that a task holds is the one that it was last answered, and the one that its release answers; both answers
 -- are acceptances whose one value is the name
@@ -105,7 +106,9 @@ pub record Served (s : Settings) (lent : Memory) (events : List Event) (p : ℕ)
   pub seeking : Seeks (memory_after s lent events) p → used s lent events p < bound s
   pub holding : HoldsSome (memory_after s lent events) p → used s lent events p ≤ bound s
   pub alone : Seeks (memory_after s lent events) p
-      → (more : ℕ) × (used s lent events p + more ≤ bound s) × HoldsSome (memory_after s lent (events ++ turns more p)) p
+      → (more : ℕ)
+      × (used s lent events p + more ≤ bound s)
+      × HoldsSome (memory_after s lent (events ++ turns more p)) p
 
 abbrev pub ServedWithin : Type 0
 ServedWithin =

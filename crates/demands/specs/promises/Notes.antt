@@ -1,6 +1,6 @@
--- For whoever calls and keeps notes: for each task the name that it holds, as the answers tell it. The notes are a list by
--- task, n + 1 for the name n and 0 for none. Brought up to date by each answer they agree with the records, and so, in a
--- reached memory, the names in them differ and are small. Theorem: `notes_kept`.
+-- For whoever calls and keeps notes: for each task the name that it holds, as the answers tell it. The notes are a list
+-- by task, n + 1 for the name n and 0 for none. Brought up to date by each answer they agree with the records, and so,
+-- in a reached memory, the names in them differ and are small. Theorem: `notes_kept`.
 use mathlib.Core.{Path.◌≡◌, Logic.◌↔◌, List.List}
 use Rattle.std.specs.Prelude.{ℕ, ◌+◌, ◌*◌, ◌/◌, ◌<◌, length, get_or, set}
 use Rattle.demands.specs.{Memory.Memory, Calls.{call, setup}}

@@ -128,7 +128,8 @@ pub data TellsFirstBad (s : Settings) (m : Memory) : List ℕ → Type 0 where
 abbrev pub BlockByBlock : Type 0
 BlockByBlock =
     (s : Settings) (block place block' place' : ℕ) → place < width s → place' < width s
-    → (mark_index s block place < mark_index s block' place') ↔ ((block < block') ⊎ ((block ≡ block') × (place < place')))
+    → (mark_index s block place < mark_index s block' place')
+    ↔ ((block < block') ⊎ ((block ≡ block') × (place < place')))
 
 -- ---- every call
 
@@ -159,5 +160,6 @@ pub record RefusalExact : Type 0 where
 -- ---- "A refusal changes no lent element"
 
 pub record RefusedChangesNothing : Type 0 where
-  pub calls : (s : Settings) (event : Event) (m : Memory) → 1 ≤ (call_says s event m).number → (call s event m).memory ≡ m
+  pub calls : (s : Settings) (event : Event) (m : Memory) → 1 ≤ (call_says s event m).number
+      → (call s event m).memory ≡ m
   pub setups : (s : Settings) (m : Memory) → 1 ≤ (setup_says s m).number → (setup s m).memory ≡ m

@@ -88,7 +88,8 @@ pub data Says (s : Settings) (p : ℕ) (m : Memory) : Kind → Outcome → Type 
   -- "write X: the block's X becomes p+1; scan at 0."
   write_x : {r c : ℕ} → SeeksAt s p m r c WriteX
       → Says s p m Turn
-      (stands_at s p (Seeking (block r c (Scan 0))) (one_more m p) (wrote_x s r c (p + 1)) (with_x (block_number s r c) (p + 1) m))
+      (stands_at s p (Seeking (block r c (Scan 0))) (one_more m p) (wrote_x s r c (p + 1))
+      (with_x (block_number s r c) (p + 1) m))
   -- "scan at h, mode 1: read mark h of the block. 1: clear, going right. 0: scan at h+1, or write mark if h+1 = N. The
   -- task's own mark is read too."
   long_scan_marked : {r c h : ℕ} → s.mode ≡ 1 → SeeksAt s p m r c (Scan h) → h < s.n → long_mark s m r c h ≡ 1
@@ -106,15 +107,18 @@ pub data Says (s : Settings) (p : ℕ) (m : Memory) : Kind → Outcome → Type 
   -- "write mark: own mark (mode 1) or the one mark (mode 0) becomes 1; read X."
   long_write_mark : {r c : ℕ} → s.mode ≡ 1 → SeeksAt s p m r c WriteMark
       → Says s p m Turn
-      (stands_at s p (Seeking (block r c ReadX)) (one_more m p) (wrote_mark s r c p 1) (with_mark (mark_of s r c p) 1 m))
+      (stands_at s p (Seeking (block r c ReadX)) (one_more m p) (wrote_mark s r c p 1)
+      (with_mark (mark_of s r c p) 1 m))
   once_write_mark : {r c : ℕ} → s.mode ≡ 0 → SeeksAt s p m r c WriteMark
       → Says s p m Turn
-      (stands_at s p (Seeking (block r c ReadX)) (one_more m p) (wrote_mark s r c 0 1) (with_mark (block_number s r c) 1 m))
+      (stands_at s p (Seeking (block r c ReadX)) (one_more m p) (wrote_mark s r c 0 1)
+      (with_mark (block_number s r c) 1 m))
   -- "read X: if it is p+1, hold (r, c). Else mode 1: clear, going down; mode 0: move down."
   read_x_own : {r c : ℕ} → SeeksAt s p m r c ReadX → x_of s m r c ≡ p + 1
       → Says s p m Turn (stands_at s p (Holding (cell r c)) (one_more m p) (read_x s r c (p + 1)) m)
   long_read_x_other : {r c : ℕ} → s.mode ≡ 1 → SeeksAt s p m r c ReadX → (x_of s m r c ≡ p + 1 → ⊥)
-      → Says s p m Turn (stands_at s p (Seeking (block r c (Clear Down))) (one_more m p) (read_x s r c (x_of s m r c)) m)
+      → Says s p m Turn
+      (stands_at s p (Seeking (block r c (Clear Down))) (one_more m p) (read_x s r c (x_of s m r c)) m)
   once_read_x_other : {r c : ℕ} {to : Outcome} → s.mode ≡ 0 → SeeksAt s p m r c ReadX → (x_of s m r c ≡ p + 1 → ⊥)
       → Moves s p r c Down (one_more m p) (read_x s r c (x_of s m r c)) m to
       → Says s p m Turn to

@@ -48,7 +48,8 @@ named_there s place = refl
 pub name_below : (s : Settings) (place : Place) → PlaceWithin s place → place_name s place < s.k * (s.k + 1) / 2
 name_below s place on = rw (← named_there s place) ((name_numbering s).below place.r place.c (omega arith))
 
-pub names_apart : (s : Settings) (a b : Place) → PlaceWithin s a → PlaceWithin s b → place_name s a ≡ place_name s b → a ≡ b
+pub names_apart : (s : Settings) (a b : Place) → PlaceWithin s a → PlaceWithin s b
+    → place_name s a ≡ place_name s b → a ≡ b
 names_apart s a b on_a on_b e =
     let same = (name_numbering s).apart a.r a.c b.r b.c (omega arith) (omega arith) e in
     rw (same.0, same.1)

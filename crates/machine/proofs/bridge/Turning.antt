@@ -14,7 +14,8 @@ module _ (s : Settings) (p r c : ℕ) where
   scan_marked h v e = rw (eq-eqb v 1 e)
 
   -- a scan that finds none at the last mark goes on to write its own
-  pub scan_done : (h v : ℕ) → (v ≡ 1 → ⊥) → h + 1 ≡ width s → Seeking (block r c WriteMark) ≡ point_turned s p r c (Scan h) v
+  pub scan_done : (h v : ℕ) → (v ≡ 1 → ⊥) → h + 1 ≡ width s
+      → Seeking (block r c WriteMark) ≡ point_turned s p r c (Scan h) v
   scan_done h v d e = rw (ne_eqb v 1 d, eq-eqb (h + 1) (width s) e)
 
   -- and before the last mark goes on to the next
