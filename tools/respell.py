@@ -33,7 +33,7 @@ USE = re.compile(r"\buse +([^\s;{]+)(?:\{((?:[^{}]|\{(?:[^{}]|\{[^{}]*\})*\})*)\
 MODULE = re.compile(NAME + r"\.(?=[{\w◌#])")
 # Quoted text, a comment, and what stands between.
 PIECE = re.compile(r'"(?:[^"\\\n]|\\.)*"|(?<![^\s(){}.;,])--(?=[\s-]|$)[^\n]*|(?:(?!"|(?<![^\s(){}.;,])--(?=[\s-]|$)).)+|.', re.S)
-ENGLISH = {"long-lived", "one-time"}
+ENGLISH = {"long-lived"}
 OURS = None
 
 
