@@ -1,6 +1,6 @@
 #!/usr/bin/env python3
 """The tables in docs/ against the crates:
-- every `pub fn` has an `ensures` and a row in docs/CONTRACTS.md, and every row a function and two must-fail edits or more;
+- every `pub fn`, every function of a `pub trait` and every conversion has an `ensures` and a row in docs/CONTRACTS.md, and every row a function and two must-fail edits or more;
 - an `ensures` is one equation or one record; it speaks of the result and of every `&mut` parameter afterwards, and its row names the
   definitions at its head and the lemma that two outcomes are equal: two premises of the lemma have the same definitions at their heads;
 - no public function of an entry crate (calls, schedule, listing) has a `requires`;
@@ -18,6 +18,9 @@ CRATES = os.path.join(ROOT, 'crates')
 ENTRIES = ('calls', 'schedule', 'listing')
 SIGNATURE = re.compile(r'\bpub\s+(?:extern\s+"C"\s+)?fn\s+(\w+)')
 IMPL = re.compile(r'^impl(?:<[^>]*>)?\s+(\w+)', re.M)
+TRAIT = re.compile(r'^pub trait (\w+)(.*?)^}', re.M | re.S)
+CONVERSION = re.compile(r'^impl (?:Try)?From<\w+> for (\w+) (.*?)^}', re.M | re.S)
+GIVES = re.compile(r'ghost (\w+)_gives = \{ λ \w+ (\w+)\. (.*?) \};', re.S)
 ENSURES = re.compile(r'\bensures\*?(?: \w+)? \{')
 LENT = re.compile(r"(\w+): &(?:'\w+ )?mut\b|&(?:'\w+ )?mut (self)\b")
 LEMMA = re.compile(r'^pub (\S+) : (.*?)(?=^\S)', re.M | re.S)
@@ -30,7 +33,8 @@ def read(*path):
 
 
 def functions(path, crate):
-    """(name, clauses) of each public function of a source file, a method under its type."""
+    """(name, clauses) of each public function of a source file, a method under its type or trait; of a conversion to a type of the crate
+    the clause that its trait asks for."""
     text = re.sub(r'//[^\n]*', '', read(path))
     impls = []
     for m in IMPL.finditer(text):
@@ -42,6 +46,13 @@ def functions(path, crate):
         head = rest[:body.start()] if body else rest.split('\n}')[0]
         owner = next((name for start, end, name in impls if start < m.start() < end), None)
         yield '::'.join(filter(None, [crate, owner, m.group(1)])), head
+    for name, body in TRAIT.findall(text):
+        for function, head in re.findall(r'^    fn (\w+)(.*?);$', body, re.M | re.S):
+            yield f'{crate}::{name}::{function}', head
+    for name, body in CONVERSION.findall(text):
+        for function, given, fact in GIVES.findall(body):
+            said = re.sub(rf'(?<!\w){given}(?!\w)', 'result', fact)
+            yield f'{crate}::{name}::{function}', '-> Self ensures { ' + said + ' }'
 
 
 def ensured(head):

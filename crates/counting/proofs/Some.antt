@@ -4,6 +4,7 @@ use Prim.Native.Nat.{ℕ, zero, suc, ◌+◌, ◌<◌}
 use lib.Dec.{T, ltb, ltb→lt, lt→ltb}
 use native.Mathlib.{Nat.{eq-or-lt_of_le, le_of_suc-le-suc, not-suc-le-zero}, Numerals.add-one, Decide.ℕ_discrete}
 use native.Mathlib.Omega.{arith}
+use Rattle.std.{specs.List.{list_any, range_with_len}, proofs.Math.Bool.{or-false, or_assoc}}
 use Rattle.counting.specs.Counting.{tick, count, any_below}
 use Rattle.counting.proofs.{Tested.{Tested, either, meaning, never}, Counting.count_one}
 
@@ -74,3 +75,20 @@ some_counted test each n = record {
   says = λ t. let (i, l, here) = count_found test n (ltb→lt 0 (count test n) t) in (i, l, (each i).says here);
   shows = λ (i, l, here). lt→ltb 0 (count test n) (count_one test n i l ((each i).shows here));
 }
+
+-- the first apart
+pub any_first : (test : ℕ → Bool) (n : ℕ) → any_below test (suc n) ≡ test 0 || any_below (λ i. test (suc i)) n
+any_first test zero = sym (or-false (test 0))
+any_first test (suc n) = rw (any_first test n) (or_assoc (test 0) (any_below (λ i. test (suc i)) n) (test (suc n)))
+
+-- a range, searched from its first number on
+ranged : (test found : ℕ → Bool) (a n : ℕ) → ((i : ℕ) → found i ≡ test (a + i))
+    → list_any test (range_with_len a n) ≡ any_below found n
+ranged test found a zero alike = refl
+ranged test found a (suc n) alike =
+    let first : found 0 ≡ test a = alike 0 ∙ ap test (omega arith) in
+    let rest = ranged test (λ i. found (suc i)) (a + 1) n (λ i. alike (suc i) ∙ ap test (omega arith)) in
+    rw (any_first found n, first, ← rest) refl
+
+pub any_ranged : (test : ℕ → Bool) (n : ℕ) → list_any test (range_with_len 0 n) ≡ any_below test n
+any_ranged test n = ranged test test 0 n (λ i. ap test (omega arith))

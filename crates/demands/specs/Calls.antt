@@ -1,16 +1,16 @@
 -- 01, "Rules of the grid", and 02, P4, P6 and P7: setup, ask, turn and release, from the memory before to the answer
 -- and the memory after.
-use Rattle.std.specs.Prelude.{ℕ}
+use Rattle.std.specs.Prelude.{Option, Ok, Err, ℕ}
 use Rattle.machine.specs.{Places.{blocks, place_name}, Turn.{access, shown_by, next, turns_after}}
 use Rattle.demands.specs.Memory.{Memory, marks_needed, state_of, turns_in, view_of, with_record, fill}
-use Rattle.demands.specs.{Touching.{value, store}, Refusals.{setup_verdict, verdict}, Answers.plain}
+use Rattle.demands.specs.{Touching.{value, store}, Refusals.{Verdict, setup_verdict, verdict}, Answers.{Reply, plain}}
 use Rattle.machine.specs.declared.{Settings.Settings, Name.Name, Record.Record, Place.Place}
 use Rattle.machine.specs.declared.State.{State, TheVariants.{Idle, Seeking, Holding}}
-use Rattle.machine.specs.declared.{Kind.{Kind, TheVariants.{Ask, Turn, Release}}, Event.Event, Verdict.Verdict}
-use Rattle.machine.specs.declared.{Shown.Shown, Told.Told, Answer.Answer}
+use Rattle.machine.specs.declared.{Kind.{Kind, TheVariants.{Ask, Turn, Release}}, Event.Event}
+use Rattle.machine.specs.declared.{Shown.Shown, Told.Told}
 
 pub record Outcome : Type 0 where
-  pub answer : Answer
+  pub answer : Reply
   pub memory : Memory
 
 -- ask, turn or release of task p
@@ -60,20 +60,20 @@ record_after s kind p state m = record {
 }
 
 -- what the call's access shows: the access itself, with the value that it reads
-abbrev pub shown_of : Settings → Kind → ℕ → State → Memory → Shown
+abbrev pub shown_of : Settings → Kind → ℕ → State → Memory → Option Shown
 shown_of s kind p state m = shown_by (access s kind p state) (value s (access s kind p state) m)
 
 -- an accepted call: the register is read or written, and the next record put in place
 abbrev pub accept : Settings → Kind → ℕ → State → Memory → Outcome
 accept s kind p state m = record {
-  answer = record { told = told_of s kind state (next_state s kind p state m); shown = shown_of s kind p state m };
+  answer = Ok (record { told = told_of s kind state (next_state s kind p state m); shown = shown_of s kind p state m });
   memory = with_record p (record_after s kind p state m) (store s (access s kind p state) m);
 }
 
 -- a refused call answers why, and changes nothing
 abbrev pub refuse_or : Verdict → Memory → Outcome → Outcome
-refuse_or Verdict.Accepted m outcome = outcome
-refuse_or (Verdict.Refused why) m outcome = record { answer = plain (Told.Refused why); memory = m }
+refuse_or (Ok accepted) m outcome = outcome
+refuse_or (Err why) m outcome = record { answer = Err why; memory = m }
 
 -- what the tests of a call say of a memory
 abbrev pub verdict_of : Settings → Event → Memory → Verdict

@@ -1,9 +1,8 @@
 -- 00, demand 3: a list of calls on one memory, the answers that it gets, and the turns counted in those answers.
 use mathlib.Core.{Bool.{cond, ◌&&◌}, List.{List, [], ◌∷◌}}
 use Rattle.std.specs.Prelude.{ℕ, zero, suc, ◌+◌, eqb}
-use Rattle.demands.specs.{Memory.Memory, Answers.is_accepted, Calls.{call, turn}}
+use Rattle.demands.specs.{Memory.Memory, Answers.{Reply, is_accepted}, Calls.{call, turn}}
 use Rattle.machine.specs.declared.{Settings.Settings, Kind.{Kind, TheVariants.{Ask, Turn, Release}}, Event.Event}
-use Rattle.machine.specs.declared.Answer.{Answer}
 
 -- so many turns of task p
 abbrev pub turns : ℕ → ℕ → List Event
@@ -18,7 +17,7 @@ run s (event ∷ events) m = run s events (call s event m).memory
 -- a call with its answer
 pub record Answered : Type 0 where
   pub event : Event
-  pub answer : Answer
+  pub answer : Reply
 
 -- the calls of a list, each with the answer that it gets
 abbrev pub history : Settings → List Event → Memory → List Answered

@@ -1,6 +1,6 @@
 -- 01, "Numbers of refusal", and 02, P1 and P4: each case by itself, and the first of them in each call's order.
 use mathlib.Core.{Bool.{Bool, false, not, ◌||◌, cond}, List.{List, [], ◌∷◌}}
-use Rattle.std.specs.Prelude.{ℕ}
+use Rattle.std.specs.Prelude.{Result, Ok, Err, ℕ}
 use lib.{Dec.{eqb, leb, ltb}, ListN.length}
 use Rattle.machine.specs.{Settings.permitted, Places.blocks, Records.{is_idle, is_seeking, is_holding}}
 use Rattle.demands.specs.Memory.{Memory, marks_needed, bad_x, bad_mark}
@@ -9,7 +9,11 @@ use Rattle.machine.specs.declared.Kind.{Kind, TheVariants.{Ask, Turn, Release}}
 use Rattle.machine.specs.declared.Row.TheVariants.{Records, Xs, Marks}
 use Rattle.machine.specs.declared.Refusal.{Refusal, TheVariants.{Limits, ShortRow, BusyRow, OutOfRange, NoSuchTask}}
 use Rattle.machine.specs.declared.Refusal.TheVariants.{OneTime, TaskIdle, TaskSeeks, TaskHolds, TooManyOut}
-use Rattle.machine.specs.declared.{View.View, Verdict.{Verdict, TheVariants.{Accepted, Refused}}}
+use Rattle.machine.specs.declared.View.{View}
+
+-- what the tests of a call say: that it is accepted, or why it is refused
+abbrev pub Verdict : Type 0
+Verdict = Result (Unit {0}) Refusal
 
 -- a refusal, and whether its case holds
 pub record Case : Type 0 where
@@ -21,8 +25,8 @@ when holds refusal = record { holds = holds; refusal = refusal }
 
 -- the first of the cases that holds
 abbrev pub first : List Case → Verdict
-first [] = Accepted
-first (case ∷ cases) = cond case.holds (Refused case.refusal) (first cases)
+first [] = Ok tt
+first (case ∷ cases) = cond case.holds (Err case.refusal) (first cases)
 
 -- 1: settings outside the limits
 abbrev pub outside_limits : Settings → Bool

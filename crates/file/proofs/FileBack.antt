@@ -2,11 +2,11 @@
 use mathlib.Core.{Path.{◌≡◌, refl, sym, ap, ◌∙◌, subst}, Bool.false}
 use mathlib.Core.List.{List, [], ◌∷◌, ◌++◌, append_assoc, append-nil}
 use Prim.Native.Nat.{ℕ, zero, suc, ◌+◌, ◌≤◌, ◌<◌}
+use Rattle.std.specs.Prelude.{Ok}
 use native.Mathlib.{Nat.add-zero, Numerals.add-one, Omega.arith}
 use lib.{Dec.{T, ltb}, ListN.{length, get_or, drop, drop_of_length-le}, Seq.drop-cons}
 use borrow.Author.Tests.{ltb-false}
 use Rattle.demands.specs.Refusals.{first}
-use Rattle.machine.specs.declared.Verdict.TheVariants.{Accepted}
 use Rattle.counting.{specs.Counting.any_below, proofs.Some.{none_below, each_none}}
 use Rattle.file.specs.File.{event_number, reading_said, file_length, byte_at, settings_of, count_of, code_at, event_at}
 use Rattle.file.specs.File.{code_bad, header_cases, Read, header_bytes, code_in, event_bytes, events_bytes, file_bytes}
@@ -54,7 +54,7 @@ module _ (file : List ℕ) (bytes : Bytes file) (good : Header file) where
 
 -- ---- the events that a reader gives
 
-module _ (file : List ℕ) (passes : first (header_cases file []) ≡ Accepted)
+module _ (file : List ℕ) (passes : first (header_cases file []) ≡ Ok tt)
     (codes : any_below (code_bad file) (count_of file) ≡ false) where
   -- one event after the other
   read_next : (at n : ℕ) → at < count_of file
@@ -123,7 +123,7 @@ module _ (file : List ℕ) (passes : first (header_cases file []) ≡ Accepted)
 
 -- ---- the theorem
 
-module _ (file : List ℕ) (bytes : Bytes file) (passes : first (header_cases file []) ≡ Accepted)
+module _ (file : List ℕ) (bytes : Bytes file) (passes : first (header_cases file []) ≡ Ok tt)
     (codes : any_below (code_bad file) (count_of file) ≡ false) where
   good : Header file
   good = header_accepted file passes

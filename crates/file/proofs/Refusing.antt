@@ -1,13 +1,14 @@
 -- Opening, the next event and the writer are refused exactly by the lines of their tables, and answer what is promised.
 use mathlib.Core.{Path.{◌≡◌, refl, ap, ◌∙◌}, Logic.{inl, inr}, List.{List, [], ◌∷◌}}
 use Prim.Native.Nat.{ℕ, zero, suc, ◌+◌, ◌*◌, ◌/◌, ◌≤◌, ◌<◌}
+use Rattle.std.specs.Prelude.{Ok}
 use native.Mathlib.{Nat.not-suc-le-zero, Omega.arith}
 use lib.{ListN.{length, get_or, drop, replicate}, Seq.drop_at}
-use Rattle.demands.specs.{Refusals.Case, Calls.event_of}
+use Rattle.demands.specs.{Refusals.{Verdict, Case}, Calls.event_of}
 use Rattle.machine.specs.RefusalNumbers.{Said}
 use Rattle.demands.specs.promises.Refusing.{Line, RefusedExactly}
 use Rattle.demands.proofs.refusals.Deciding.{Are, refused_exactly, accepted_verdict, refusal_keeps}
-use Rattle.machine.specs.declared.{Settings.Settings, Verdict.{Verdict, TheVariants.Accepted}, Reading.Reading}
+use Rattle.machine.specs.declared.{Settings.Settings}
 use Rattle.machine.proofs.refusals.Limits.{limits_tested}
 use Rattle.counting.proofs.{Tested.{Tested, below, most, same, both, either, fails, meaning}, Some.some_below}
 use Rattle.file.specs.File.{letters_right, version_of, settings_of, count_of, code_at, task_at, event_at, code_bad}
@@ -63,7 +64,7 @@ module _ (file : List ℕ) where
       header_are file (code_cases file) (code_lines file)
       (record { numbered = refl; tested = some_below (code_bad file) (code_tested file) (count_of file) }, λ none. tt)
 
-  opened : (open_says (open_verdict file)).number ≡ 0 → open_verdict file ≡ Accepted
+  opened : (open_says (open_verdict file)).number ≡ 0 → open_verdict file ≡ Ok tt
   opened = accepted_verdict open_says refl (λ why. refl) (open_verdict file)
 
   opening_told : OpeningTold file
@@ -80,7 +81,7 @@ each_opening = opening_told
 -- ---- the next event
 
 -- a code that is not above 2 is that of the event given
-kind_given : (code task : ℕ) → code ≤ 2 → Gives code task (Reading.Given (event_of (kind_of code) task))
+kind_given : (code task : ℕ) → code ≤ 2 → Gives code task (Ok (event_of (kind_of code) task))
 kind_given zero task l = inl (refl, refl)
 kind_given (suc zero) task l = inr (inl (refl, refl))
 kind_given (suc (suc zero)) task l = inr (inr (refl, refl))
@@ -101,7 +102,7 @@ module _ (file : List ℕ) (at : ℕ) where
   next_exactly = refused_exactly next_says refl (λ why. refl) (header_cases file (event_cases file at))
       (next_lines file at) next_are
 
-  given : (next_says (event_verdict file at)).number ≡ 0 → event_verdict file at ≡ Accepted
+  given : (next_says (event_verdict file at)).number ≡ 0 → event_verdict file at ≡ Ok tt
   given = accepted_verdict next_says refl (λ why. refl) (event_verdict file at)
 
   -- the last line of the table does not hold
@@ -147,7 +148,7 @@ module _ (s : Settings) (numbers room : List ℕ) where
     ),
   )
 
-  pub wrote : (write_says (write_verdict s numbers room)).number ≡ 0 → write_verdict s numbers room ≡ Accepted
+  pub wrote : (write_says (write_verdict s numbers room)).number ≡ 0 → write_verdict s numbers room ≡ Ok tt
   wrote = accepted_verdict write_says refl (λ why. refl) (write_verdict s numbers room)
 
   writing_told : WritingTold s numbers room

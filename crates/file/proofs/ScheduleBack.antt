@@ -1,18 +1,18 @@
 -- An accepted schedule, written and read back, gives the same settings and events.
 use mathlib.Core.{Path.{◌≡◌, refl, sym, ap, ◌∙◌, subst}, Logic.⊎_elim, Bool.false, List.{List, [], ◌∷◌, ◌++◌}}
 use Prim.Native.Nat.{ℕ, zero, suc, ◌+◌, ◌*◌, ◌%◌, ◌/◌, ◌≤◌, ◌<◌}
+use Rattle.std.specs.Prelude.{Ok}
 use native.Mathlib.{Nat.add-zero, Omega.arith}
 use lib.{Dec.{T, ltb}, ListN.{length, get_or, take, drop, get_or-append}, Seq.{get_or-append-add, take_at, ext_get_or}}
 use borrow.Author.Tests.{ltb-false, le-ltb, not-false}
 use Rattle.machine.specs.{Settings.{known_version, permitted}, RefusalNumbers.Said}
-use Rattle.demands.specs.{Refusals.first, Answers.Tells}
+use Rattle.demands.specs.{Refusals.{Verdict, first}, Answers.Tells}
 use Rattle.machine.proofs.refusals.Limits.{limits}
 use Rattle.demands.proofs.refusals.Deciding.{no_case}
 use Rattle.machine.specs.promises.Ranges.{WithinLimits}
-use Rattle.machine.specs.declared.{Settings.Settings, Verdict.{Verdict, TheVariants.Accepted}, Opening.Opening}
-use Rattle.machine.specs.declared.Reading.{Reading}
+use Rattle.machine.specs.declared.{Settings.Settings}
 use Rattle.counting.{specs.Counting.any_below, proofs.Some.{none_below, each_none}}
-use Rattle.file.specs.File.{most_events, write_cases, event_number, reading_said, writing_said, file_length}
+use Rattle.file.specs.File.{opened_as, most_events, write_cases, event_number, reading_said, writing_said, file_length}
 use Rattle.file.specs.File.{settings_of}
 use Rattle.file.specs.File.{count_of, code_at, event_at, code_bad, header_cases, opening, Read, reading, header_bytes}
 use Rattle.file.specs.File.{code_in, event_bytes, events_bytes, file_bytes, number_bad, write_verdict, written_by}
@@ -73,7 +73,7 @@ module _ (s : Settings) (numbers : List ℕ) (good : Writable s numbers) where
     whole = length_file s numbers ∙ ap file_length (sym count_back);
   }
 
-  passes : first (header_cases file []) ≡ Accepted
+  passes : first (header_cases file []) ≡ Ok tt
   passes = header_accepts file header_good
 
   code_back : (i : ℕ) → i < length numbers → code_at file i ≡ code_in (get_or numbers i 0)
@@ -99,7 +99,7 @@ module _ (s : Settings) (numbers : List ℕ) (good : Writable s numbers) where
       rw (code_back i l, low, high) (bytes_of_event (get_or numbers i 0) (code_known i l))
 
   given_back : (i : ℕ) → i < length numbers
-      → ◌≡◌ {A = Read} (reading file i) (record { answer = Reading.Given (event_at file i); at = i + 1 })
+      → ◌≡◌ {A = Read} (reading file i) (record { answer = Ok (event_at file i); at = i + 1 })
   given_back i l = reading_given file passes i (omega (arith, count_back))
       (ap (ltb 2) (code_back i l) ∙ le-ltb _ _ (code_known i l))
 
@@ -115,7 +115,7 @@ module _ (s : Settings) (numbers : List ℕ) (good : Writable s numbers) where
       ∙ ap (λ (j : ℕ). event_number (event_at file j)) here
       ∙ number_back i below
 
-  opens_back : opening file ≡ Opening.Opened s (length numbers)
+  opens_back : opening file ≡ opened_as s (length numbers)
   opens_back = opening_passed file _ refl passes ∙ rw (codes_back, settings_back, count_back)
 
   tells_back : (i : ℕ) → i < length numbers → Tells (reading_said (reading file i).answer) (get_or numbers i 0 ∷ [])
@@ -142,14 +142,14 @@ module _ (s : Settings) (numbers : List ℕ) (good : Writable s numbers) where
 -- what the writer's acceptance shows
 written_accepted : (s : Settings) (numbers room : List ℕ) (count : ℕ)
     → Tells (writing_said (writing s numbers room).answer) (count ∷ [])
-    → (write_verdict s numbers room ≡ Accepted) × (file_length (length numbers) ≡ count)
+    → (write_verdict s numbers room ≡ Ok tt) × (file_length (length numbers) ≡ count)
 written_accepted s numbers room count (accepted, value) = (
   wrote s numbers room accepted,
   ap (λ (values : List ℕ). get_or values 0 0)
       (sym ((each_writing s numbers room).values accepted) ∙ value),
 )
 
-verdict_writable : (s : Settings) (numbers room : List ℕ) → write_verdict s numbers room ≡ Accepted → Writable s numbers
+verdict_writable : (s : Settings) (numbers room : List ℕ) → write_verdict s numbers room ≡ Ok tt → Writable s numbers
 verdict_writable s numbers room accepted =
     let (limits, (few, (codes, last))) = no_case (write_cases s numbers room) accepted in
     record { limits = not-false (permitted s) limits; few = ltb-false most_events (length numbers) few; codes = codes }

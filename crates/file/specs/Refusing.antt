@@ -3,12 +3,12 @@
 -- themselves and cite no field and no test of `specs/File`. Theorems: `each_opening`, `each_reading`, `each_writing`,
 -- `writer_takes`.
 use mathlib.Core.{Path.◌≡◌, Logic.◌⊎◌, List.{List, [], ◌∷◌}}
-use Rattle.std.specs.Prelude.{ℕ, ◌+◌, ◌*◌, ◌/◌, ◌≤◌, ◌<◌, length, get_or, drop, replicate}
+use Rattle.std.specs.Prelude.{Ok, ℕ, ◌+◌, ◌*◌, ◌/◌, ◌≤◌, ◌<◌, length, get_or, drop, replicate}
 use Rattle.machine.specs.promises.Ranges.{WithinLimits}
 use Rattle.demands.specs.promises.Refusing.{Line, line, RefusedExactly}
 use Rattle.demands.specs.Calls.{ask, turn, release}
-use Rattle.machine.specs.declared.{Settings.Settings, Opening.Opening, Reading.Reading}
-use Rattle.file.specs.File.{opening, reading, writing, opening_said, reading_said, writing_said}
+use Rattle.machine.specs.declared.{Settings.Settings}
+use Rattle.file.specs.File.{opened_as, Reading, opening, reading, writing, opening_said, reading_said, writing_said}
 
 -- ---- what the bytes say
 
@@ -71,7 +71,7 @@ write_lines s numbers room =
 pub record OpeningTold (file : List ℕ) : Type 0 where
   pub exactly : RefusedExactly (opening_said (opening file)) (open_lines file)
   pub answers : (opening_said (opening file)).number ≡ 0
-      → opening file ≡ Opening.Opened (in_header file) (sixteen file 9)
+      → opening file ≡ opened_as (in_header file) (sixteen file 9)
   pub values : (opening_said (opening file)).number ≡ 0
       → (opening_said (opening file)).values
       ≡ byte file 5 ∷ sixteen file 6 ∷ byte file 8 ∷ sixteen file 3 ∷ sixteen file 9 ∷ []
@@ -84,9 +84,9 @@ EachOpening = (file : List ℕ) → OpeningTold file
 -- "code (0 ask, 1 turn, 2 release)"
 abbrev pub Gives : ℕ → ℕ → Reading → Type 0
 Gives code identifier answer =
-    ((code ≡ 0) × (answer ≡ Reading.Given (ask identifier)))
-    ⊎ (((code ≡ 1) × (answer ≡ Reading.Given (turn identifier)))
-    ⊎ ((code ≡ 2) × (answer ≡ Reading.Given (release identifier))))
+    ((code ≡ 0) × (answer ≡ Ok (ask identifier)))
+    ⊎ (((code ≡ 1) × (answer ≡ Ok (turn identifier)))
+    ⊎ ((code ≡ 2) × (answer ≡ Ok (release identifier))))
 
 -- "an event given moves the reader on by one, a refusal does not"
 pub record ReadingTold (file : List ℕ) (at : ℕ) : Type 0 where

@@ -6,7 +6,7 @@ ghost use Rattle.std.specs.Prelude.{◌≡◌, [], ◌+◌, ◌≤◌, length};
 ghost use Rattle.demands.specs.Refusals.{first};
 ghost use Rattle.file.specs.File.{word_at, letters_right, settings_of, header_cases};
 
-use machine::{Refusal, Settings, Verdict};
+use machine::{Refusal, Settings};
 
 // The most events that a schedule has.
 pub const MOST_EVENTS: usize = 16384;
@@ -16,9 +16,7 @@ pub fn word(file: &[u8], i: usize) -> u16
     requires { i + 2 ≤ length file.now }
     ensures { result ≡ word_at file.now i }
 {
-    let low = file[i];
-    let high = file[i + 1];
-    low as u16 + 256 * (high as u16)
+    u16::from_le_bytes([file[i], file[i + 1]])
 }
 
 // Whether the file begins with the letters G, R, S.
@@ -26,13 +24,7 @@ fn letters(file: &[u8]) -> bool
     requires { 11 ≤ length file.now }
     ensures { result ≡ letters_right file.now }
 {
-    if file[0] != b'G' {
-        return false;
-    }
-    if file[1] != b'R' {
-        return false;
-    }
-    file[2] == b'S'
+    file.starts_with(b"GRS")
 }
 
 // The settings in the header.
@@ -49,28 +41,28 @@ pub fn settings(file: &[u8]) -> Settings
 }
 
 // Opening's tests but the last: 8, 9, 10, 1, 11, 8.
-pub fn header(file: &[u8]) -> Verdict
+pub fn header(file: &[u8]) -> Result<(), Refusal>
     ensures { result ≡ first (header_cases file.now []) }
 {
     if file.len() < 11 {
-        return Verdict::Refused(Refusal::FileLength);
+        return Err(Refusal::FileLength);
     }
     if !letters(file) {
-        return Verdict::Refused(Refusal::Letters);
+        return Err(Refusal::Letters);
     }
     if !places::known_version(word(file, 3)) {
-        return Verdict::Refused(Refusal::Version);
+        return Err(Refusal::Version);
     }
     if !places::permitted(settings(file)) {
-        return Verdict::Refused(Refusal::Limits);
+        return Err(Refusal::Limits);
     }
-    let count = word(file, 9) as usize;
+    let count = usize::from(word(file, 9));
     let whole = 11 + 3 * count;
     if MOST_EVENTS < count {
-        return Verdict::Refused(Refusal::TooManyEvents);
+        return Err(Refusal::TooManyEvents);
     }
-    if file.len() == whole {
-        return Verdict::Accepted;
+    if file.len() != whole {
+        return Err(Refusal::FileLength);
     }
-    Verdict::Refused(Refusal::FileLength)
+    Ok(())
 }

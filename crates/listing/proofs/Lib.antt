@@ -1,4 +1,4 @@
-pub mod Counting
 pub mod Contract
+pub mod Counting
 pub mod Opened
 pub mod Running

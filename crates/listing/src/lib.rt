@@ -3,249 +3,167 @@
 
 #![tactic(auto)]
 
-ghost use Rattle.std.specs.Prelude.{◌≡◌, ℕ, ◌+◌, ◌*◌, ◌≤◌, ◌<◌, max, length, get_or, replicate};
+ghost use Rattle.std.specs.Prelude.{◌≡◌, Ok, ℕ, ◌+◌, ◌*◌, ◌≤◌, length, get_or, take};
 ghost use Rattle.machine.specs.Records.{idle};
-ghost use Rattle.counting.specs.Counting.{tick};
-ghost use Rattle.demands.specs.{Memory.largest, Lent.lent};
-ghost use Rattle.file.specs.File.{event_at, opening, written_of};
-ghost use Rattle.printed.specs.Listing.{completed, progress, ended};
-ghost use Rattle.text.specs.Put.{Puts};
-ghost use Rattle.listing.specs.Counts.{counts, among};
-ghost use Rattle.listing.specs.Standing.{Begun, Advanced};
-ghost use Rattle.printed.specs.Listed.{listed};
+ghost use Rattle.demands.specs.{Memory.out_of, Answers.told_in};
+ghost use Rattle.file.specs.File.{opening, written_of};
+ghost use Rattle.printed.specs.Listing.{completed, holders_of, listing_by};
+ghost use Rattle.report.specs.Pages.{Adds, Fits};
+ghost use Rattle.printed.specs.Listed.{room_by, listed};
 
-use calls::{Call, idle_records, make};
-use machine::{Event, Kind, Opening, Reading, Record, Refusal, Settings, TaskId, Told, Writing};
-use report::{put_end, put_event, put_grid, put_refused};
+use machine::{Answer, Event, Opened, Record, Refusal, Settings, TaskId, Told};
+use ranges::is_out;
+use records::is_holding;
+use report::Page;
+use schedule::Reader;
 
-// Where a run stands: the records, PEAK and MOST so far, and the index past the lines printed.
-#[derive(Clone, Copy)]
-struct Standing {
+// A run of a schedule: its settings, memory for the largest settings, and PEAK and MOST so far.
+#[derive(Drop)]
+struct Run {
+    settings: Settings,
     records: [Record; 256],
+    xs: [u32; 120],
+    marks: [u8; 30720],
     peak: u16,
     most: u32,
-    at: usize,
+    ghost few: { settings.n ≤ 256 },
 }
 
-// Who is counted: the holders, or everyone out, seekers and holders together.
-#[derive(Clone, Copy)]
-enum Who {
-    Holders,
-    Out,
-}
-
-// ---- what is counted
-
-// One more where it is so.
-fn ticked(yes: bool, n: u16) -> u16
-    requires { n < 65535 }
-    ensures { result ≡ tick yes n }
+// The turns that a completed acquisition used; 0 and no `None` where the call completes none, since MOST
+// is a `max` from 0 on.
+fn completed(answer: Result<Answer, Refusal>, turns: u32) -> u32
+    ensures { result ≡ completed (told_in answer) turns }
 {
-    if yes {
-        return n + 1;
-    }
-    n
-}
-
-// Whether a task counts.
-fn counts(who: Who, own: Record) -> bool
-    ensures { result ≡ counts who own.state }
-{
-    match who {
-        Who::Holders => records::is_holding(own),
-        Who::Out => ranges::is_out(own),
-    }
-}
-
-// How many of the N tasks hold, or are out.
-fn among(s: Settings, records: [Record; 256], who: Who) -> u16
-    requires { s.n ≤ 256 }
-    ensures { (result ≡ among who records s.n) × (result ≤ 256) }
-{
-    let count = s.n as usize;
-    let mut n = 0;
-    let mut i = 0;
-    while i < count {
-        let own = records[i];
-        n = ticked(counts(who, own), n);
-        i += 1;
-    }
-    n
-}
-
-// The larger of two numbers.
-fn larger(a: u16, b: u16) -> u16
-    ensures { result ≡ max a b }
-{
-    if a < b {
-        return b;
-    }
-    a
-}
-
-// The larger of two counts of turns.
-fn more(a: u32, b: u32) -> u32
-    ensures { result ≡ max a b }
-{
-    if a < b {
-        return b;
-    }
-    a
-}
-
-// The turns in the record of a task; 0 where there is none.
-fn turns_of(records: [Record; 256], task: TaskId) -> u32
-    ensures { result ≡ (get_or records task.0 idle).turns }
-{
-    let i = task.0 as usize;
-    if i >= 256 {
-        return 0;
-    }
-    let one = records[i];
-    one.turns
-}
-
-// The turns that a completed acquisition used; 0 where the call completes none.
-fn completed(told: Told, turns: u32) -> u32
-    ensures { result ≡ completed told turns }
-{
-    match told {
-        Told::Done => 0,
-        Told::Seeks => 0,
-        Told::Holds(_) => turns,
-        Told::Freed(_) => 0,
-        Told::Refused(_) => 0,
-    }
-}
-
-// ---- the run
-
-// As many X numbers as the largest settings need, all 0.
-fn no_xs() -> [u32; 120]
-    ensures { result ≡ replicate 120 0 }
-{
-    [0u32; 120]
-}
-
-// As many marks as the largest settings need, all 0.
-fn no_marks() -> [u8; 30720]
-    ensures { result ≡ replicate 30720 0 }
-{
-    [0u8; 30720]
-}
-
-// Setup on fresh memory, and the line that says the settings.
-fn begin(s: Settings, room: &mut [u8], xs: &mut [u32], marks: &mut [u8]) -> Standing
-    requires { 23 ≤ length room.old }
-    ensures { Begun s (lent (replicate 256 idle) xs.old marks.old) room.old result (lent result.records xs.new marks.new) room.new }
-{
-    let made = make(s, Call::Setup, idle_records(), xs, marks);
-    let at = put_grid(room, s);
-    let records = made.records;
-    Standing {
-        records: records,
-        peak: 0,
-        most: 0,
-        at: at,
-    }
-}
-
-// The event at a position of an opened file.
-fn event_of(file: &[u8], s: Settings, count: u16, i: usize) -> Event
-    requires { (opening file.now ≡ Opening.Opened s count) × (i < count) }
-    ensures { result ≡ event_at file.now i }
-{
-    let next = schedule::read(file, i);
-    let answer = next.answer;
     match answer {
-        Reading::Given(event) => event,
-        Reading::Refused(_) => Event {
-            kind: Kind::Ask,
-            task: TaskId(0),
-        },
+        Ok(
+            Answer {
+                told: Told::Holds(_),
+                ..
+            },
+        ) => turns,
+        _ => 0,
     }
 }
 
-// One event more: the call, its line, and the counts after it.
-fn advance(
-    s: Settings,
-    position: u16,
-    event: Event,
-    at: Standing,
-    room: &mut [u8],
-    xs: &mut [u32],
-    marks: &mut [u8],
-) -> Standing
-    requires { (s.n ≤ 256) × (at.at + 56 ≤ length room.old) }
-    ensures { Advanced s position event at (lent at.records xs.old marks.old) room.old result (lent result.records xs.new marks.new) room.new }
-{
-    let before = at.records;
-    let made = make(s, Call::Of(event), before, xs, marks);
-    let answer = made.answer;
-    let records = made.records;
-    let task = event.task;
-    let told = answer.told;
-    let used = completed(told, turns_of(records, task));
-    Standing {
-        records: records,
-        peak: larger(at.peak, among(s, records, Who::Out)),
-        most: more(at.most, used),
-        at: put_event(room, at.at, position, event, answer),
-    }
-}
+impl Run {
+    ghost use Rattle.listing.specs.Runs.{Begun, Advanced};
 
-// The lines of an opened file, on fresh memory that is lent.
-fn run(
-    file: &[u8],
-    s: Settings,
-    count: u16,
-    room: &mut [u8],
-    xs: &mut [u32],
-    marks: &mut [u8],
-) -> usize
-    requires { (opening file.now ≡ Opening.Opened s count) × (lent (replicate 256 idle) xs.old marks.old ≡ largest) × (50 + 56 * count ≤ length room.old) }
-    ensures { Puts room.old 0 (ended s (progress s file.now count)) result room.new }
-{
-    let mut standing = begin(s, room, xs, marks);
-    let mut i = 0u16;
-    while i < count {
-        let event = event_of(file, s, count, i as usize);
-        standing = advance(s, i, event, standing, room, xs, marks);
-        i += 1;
+    // A run at its beginning: setup on fresh memory.
+    fn begin(settings: Settings) -> Run
+        requires { settings.n ≤ 256 }
+        ensures { Begun settings result }
+    {
+        let mut records = calls::idle_records();
+        let mut xs = [0; 120];
+        let mut marks = [0; 30720];
+        let _ = calls::setup(settings, &mut records, &mut xs, &mut marks);
+        Run {
+            settings,
+            records,
+            xs,
+            marks,
+            peak: 0,
+            most: 0,
+        }
     }
-    let records = standing.records;
-    let held = among(s, records, Who::Holders);
-    put_end(room, standing.at, held, standing.peak, standing.most)
+
+    // The records of the N tasks.
+    fn tasks(&self) -> &[Record]
+        ensures { result.now ≡ take self.now.settings.n self.now.records }
+    {
+        &self.records[..usize::from(self.settings.n)]
+    }
+
+    // How many of them are out. Two chains of a line: one with the test as a parameter would have its
+    // `post` in the contract.
+    fn tasks_out(&self) -> u16
+        ensures { result ≡ out_of self.now.settings self.now.records }
+    {
+        self.tasks().iter().filter(|own| is_out(**own)).count() as u16
+    }
+
+    // How many of them hold.
+    fn holders(&self) -> u16
+        ensures { result ≡ holders_of self.now.settings self.now.records }
+    {
+        self.tasks().iter().filter(|own| is_holding(**own)).count() as u16
+    }
+
+    // The turns in the record of a task; 0 where there is none.
+    fn turns_of(&self, task: TaskId) -> u32
+        ensures { result ≡ (get_or self.now.records task.0 idle).turns }
+    {
+        self.records
+            .get(usize::from(task.0))
+            .map_or(0, |own| own.turns)
+    }
+
+    // One event more: the call, and the counts after it.
+    fn advance(&mut self, event: Event) -> Result<Answer, Refusal>
+        ensures { Advanced event self.old result self.new }
+    {
+        let answer = calls::step(
+            self.settings,
+            &mut self.records,
+            &mut self.xs,
+            &mut self.marks,
+            event,
+        );
+        let used = completed(answer, self.turns_of(event.task));
+        self.peak = self.peak.max(self.tasks_out());
+        self.most = self.most.max(used);
+        answer
+    }
 }
 
 // The lines of an opened file.
-fn put_lines(file: &[u8], s: Settings, count: u16, room: &mut [u8]) -> usize
-    requires { (opening file.now ≡ Opening.Opened s count) × (50 + 56 * count ≤ length room.old) }
-    ensures { Puts room.old 0 (ended s (progress s file.now count)) result room.new }
+fn put_lines(file: &[u8], opened: Opened, page: &mut Page)
+    requires { (opening file.now ≡ Ok opened) × Fits (50 + 56 * opened.count) page.old }
+    ensures { Adds (50 + 56 * opened.count) page.old (listing_by (Ok opened) file.now) page.new }
 {
-    let mut xs = no_xs();
-    let mut marks = no_marks();
-    run(file, s, count, room, &mut xs, &mut marks)
+    let Opened { settings, count } = opened;
+    let mut run = Run::begin(settings);
+    let mut reader = Reader::new(file);
+    page.put_grid(settings);
+    for position in 0..count {
+        let event = reader.next().unwrap();
+        let answer = run.advance(event);
+        page.put_event(position, event, answer);
+    }
+    page.put_end(run.holders(), run.peak, run.most);
 }
 
-// Lists a schedule file: the text from the start of the room, and how long it is. 50 bytes and 56 for
-// each event are always enough; a shorter room is refused, and stays as it was.
-pub fn list(file: &[u8], room: &mut [u8]) -> Writing
+// Room that is always enough: 50 bytes and 56 for each event, or one line where the file does not open.
+fn room_by(opened: Result<Opened, Refusal>) -> usize
+    ensures { result ≡ room_by opened }
+{
+    match opened {
+        Ok(opened) => 50 + 56 * usize::from(opened.count),
+        Err(_) => 14,
+    }
+}
+
+// The lines of a file, by how it opens.
+fn put_listing(file: &[u8], opened: Result<Opened, Refusal>, page: &mut Page)
+    requires { (opening file.now ≡ opened) × Fits (room_by opened) page.old }
+    ensures { Adds (room_by opened) page.old (listing_by opened file.now) page.new }
+{
+    match opened {
+        Ok(opened) => put_lines(file, opened, page),
+        Err(why) => page.put_refused(why),
+    }
+}
+
+// Lists a schedule file: the text from the start of the room, and how long it is. A room that is
+// shorter than what is always enough is refused, and stays as it was.
+pub fn list(file: &[u8], room: &mut [u8]) -> Result<usize, Refusal>
     ensures { written_of result room.new ≡ listed file.now room.old }
 {
-    let opening = schedule::open(file);
-    match opening {
-        Opening::Refused(why) => {
-            if room.len() < 14 {
-                return Writing::Refused(Refusal::ShortRoom);
-            }
-            Writing::Wrote(put_refused(room, why))
-        }
-        Opening::Opened { settings, count } => {
-            if room.len() < 50 + 56 * (count as usize) {
-                return Writing::Refused(Refusal::ShortRoom);
-            }
-            Writing::Wrote(put_lines(file, settings, count, room))
-        }
+    let opened = schedule::open(file);
+    if room.len() < room_by(opened) {
+        return Err(Refusal::ShortRoom);
     }
+    let mut page = Page { room, at: 0 };
+    put_listing(file, opened, &mut page);
+    Ok(page.at)
 }

@@ -1,27 +1,31 @@
 -- 01, "Rules of the grid", over Figures 4 and 5 of source 001: which register a task touches where it stands, and where
 -- it stands then. Statement numbers in brackets: [4.n] of Figure 4, mode 0; [5.n] of Figure 5, mode 1.
-use Rattle.std.specs.Prelude.{cond, ℕ, ◌+◌, eqb, leb}
+use Rattle.std.specs.Prelude.{Option, None, Some, cond, ℕ, ◌+◌, eqb, leb}
 use Rattle.machine.specs.{Settings.{width, own}, Places.{block_number, block, cell}}
 use Rattle.machine.specs.declared.{Settings.Settings, Direction.{Direction, TheVariants.{Right, Down}}}
 use Rattle.machine.specs.declared.Point.{Point, TheVariants.{WriteX, Scan, WriteMark, ReadX, Clear}}
 use Rattle.machine.specs.declared.State.{State, TheVariants.{Seeking, Holding}}
-use Rattle.machine.specs.declared.{Register.TheVariants.{X, Mark}, Op.TheVariants.{Read, Write}}
-use Rattle.machine.specs.declared.Access.{Access, TheVariants.{NoAccess, Touch}}
+use Rattle.machine.specs.declared.{Register.{Register, TheVariants.{X, Mark}}, Op.{Op, TheVariants.{Read, Write}}}
+use Rattle.machine.specs.declared.Access.{Access}
 
 -- ---- which register a task touches
 
+-- a register that is touched, and what is done with it
+abbrev pub touch : Register → Op → Option Access
+touch register op = Some (record { register = register; op = op })
+
 -- the access at a point of the block at (r, c), by task p
-abbrev pub point_access : Settings → ℕ → ℕ → ℕ → Point → Access
-point_access s p r c WriteX = Touch (X (block_number s r c)) (Write (p + 1))  -- [4.0] [5.2]
-point_access s p r c (Scan h) = Touch (Mark (block_number s r c) h) Read  -- [4.1] [5.3]
-point_access s p r c WriteMark = Touch (Mark (block_number s r c) (own s p)) (Write 1)  -- [4.2] [5.4]
-point_access s p r c ReadX = Touch (X (block_number s r c)) Read  -- [4.3] [5.5]
-point_access s p r c (Clear direction) = Touch (Mark (block_number s r c) (own s p)) (Write 0)  -- [5.6]
+abbrev pub point_access : Settings → ℕ → ℕ → ℕ → Point → Option Access
+point_access s p r c WriteX = touch (X (block_number s r c)) (Write (p + 1))  -- [4.0] [5.2]
+point_access s p r c (Scan h) = touch (Mark (block_number s r c) h) Read  -- [4.1] [5.3]
+point_access s p r c WriteMark = touch (Mark (block_number s r c) (own s p)) (Write 1)  -- [4.2] [5.4]
+point_access s p r c ReadX = touch (X (block_number s r c)) Read  -- [4.3] [5.5]
+point_access s p r c (Clear direction) = touch (Mark (block_number s r c) (own s p)) (Write 0)  -- [5.6]
 
 -- a task that gives up its place clears its own mark of a block, and touches nothing on the edge [5.8]
-abbrev pub cell_access : Settings → ℕ → ℕ → ℕ → Access
+abbrev pub cell_access : Settings → ℕ → ℕ → ℕ → Option Access
 cell_access s p r c =
-    cond (leb (r + c + 2) s.k) (Touch (Mark (block_number s r c) (own s p)) (Write 0)) NoAccess
+    cond (leb (r + c + 2) s.k) (touch (Mark (block_number s r c) (own s p)) (Write 0)) None
 
 -- ---- where it stands then
 

@@ -5,5 +5,6 @@ pub mod Records
 pub mod Grid
 pub mod Turn
 pub mod RefusalNumbers
+pub mod Codes
 -- What is promised of them.
 pub mod promises

@@ -1,37 +1,37 @@
 -- A call looks at the task's record alone to learn which register it touches, makes that one access, and hands the
 -- value read to the record: `next` sees no memory. What is touched and what comes next on a grid is in `Grid`.
-use Rattle.std.specs.Prelude.{Bool, true, false, ℕ, ◌+◌}
+use Rattle.std.specs.Prelude.{Bool, true, false, Option, None, Some, ℕ, ◌+◌}
 use Rattle.machine.specs.Grid.{point_access, cell_access, arrive, point_turned}
 use Rattle.machine.specs.declared.{Settings.Settings, Record.Record}
 use Rattle.machine.specs.declared.{State.{State, TheVariants.{Idle, Seeking, Holding}}, Stand.Stand, Place.Place}
 use Rattle.machine.specs.declared.{Register.Register, Op.{Op, TheVariants.{Read, Write}}}
-use Rattle.machine.specs.declared.{Access.{Access, TheVariants.{NoAccess, Touch}}, Letter.TheVariants.{R, W}}
-use Rattle.machine.specs.declared.Shown.{Shown, TheVariants.{Nothing, Touched}}
+use Rattle.machine.specs.declared.{Access.Access, Letter.{Letter, TheVariants.{R, W}}}
+use Rattle.machine.specs.declared.Shown.{Shown}
 use Rattle.machine.specs.declared.Kind.{Kind, TheVariants.{Ask, Turn, Release}}
 
 -- ---- which register a call touches
 
 -- by where a seeking task stands, and by what a holding task gives up
-abbrev pub stand_access : Settings → ℕ → Stand → Access
+abbrev pub stand_access : Settings → ℕ → Stand → Option Access
 stand_access s p stand = point_access s p stand.r stand.c stand.point
 
-abbrev pub place_access : Settings → ℕ → Place → Access
+abbrev pub place_access : Settings → ℕ → Place → Option Access
 place_access s p place = cell_access s p place.r place.c
 
 -- a turn makes the access of its stand; a task that does not seek has none to make
-abbrev pub turn_access : Settings → ℕ → State → Access
-turn_access s p Idle = NoAccess
+abbrev pub turn_access : Settings → ℕ → State → Option Access
+turn_access s p Idle = None
 turn_access s p (Seeking stand) = stand_access s p stand
-turn_access s p (Holding place) = NoAccess
+turn_access s p (Holding place) = None
 
 -- a release makes the access of its place
-abbrev pub release_access : Settings → ℕ → State → Access
-release_access s p Idle = NoAccess
-release_access s p (Seeking stand) = NoAccess
+abbrev pub release_access : Settings → ℕ → State → Option Access
+release_access s p Idle = None
+release_access s p (Seeking stand) = None
 release_access s p (Holding place) = place_access s p place
 
-abbrev pub access : Settings → Kind → ℕ → State → Access
-access s Ask p state = NoAccess
+abbrev pub access : Settings → Kind → ℕ → State → Option Access
+access s Ask p state = None
 access s Turn p state = turn_access s p state
 access s Release p state = release_access s p state
 
@@ -55,14 +55,18 @@ abbrev pub left : Op → ℕ → ℕ
 left Read old = old
 left (Write v) old = v
 
--- what an answer shows of an access that saw v: the value read, or the value written
-abbrev pub op_shown : Op → Register → ℕ → Shown
-op_shown Read register v = Touched R register v
-op_shown (Write w) register v = Touched W register w
+-- a register that is shown, with a value read or written
+abbrev pub show : Letter → Register → ℕ → Option Shown
+show letter register value = Some (record { letter = letter; register = register; value = value })
 
-abbrev pub shown_by : Access → ℕ → Shown
-shown_by NoAccess v = Nothing
-shown_by (Touch register op) v = op_shown op register v
+-- what an answer shows of an access that saw v: the value read, or the value written
+abbrev pub op_shown : Op → Register → ℕ → Option Shown
+op_shown Read register v = show R register v
+op_shown (Write w) register v = show W register w
+
+abbrev pub shown_by : Option Access → ℕ → Option Shown
+shown_by None v = None
+shown_by (Some access) v = op_shown access.op access.register v
 
 -- ---- the next record
 

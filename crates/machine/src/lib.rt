@@ -4,13 +4,14 @@
 #![tactic(auto)]
 
 ghost use Rattle.std.specs.Prelude.{◌≡◌, ◌+◌, ◌≤◌, ◌<◌, T};
-ghost use Rattle.machine.specs.RefusalNumbers.{number_of};
+ghost use Rattle.machine.specs.{RefusalNumbers.number_of, Codes.kind_coded};
 ghost use Rattle.machine.specs.{Settings.{width, bound}, Places.block};
 ghost use Rattle.machine.specs.Records.{point_in_range, stand_in_range, record_in_range};
 ghost use Rattle.machine.specs.{Grid.{arrive, move, leave, point_turned}, Turn.{stand_turned, next_record}};
 
 // Mode 0 is one-time, mode 1 long-lived. There are n tasks, of which at most k are out at once. Names
-// are numbered by rows in version 1 and by diagonals in version 2.
+// are numbered by rows in version 1 and by diagonals in version 2. Mode and version are numbers, and no
+// enums: a call takes any, and refuses what is outside the limits.
 #[derive(Clone, Copy)]
 pub struct Settings {
     pub mode: u8,
@@ -68,7 +69,8 @@ pub enum State {
 }
 
 // A task's record, as it stands in the lent row: where the task is, and the accepted turns that it has
-// used since its ask; 0 while it is idle.
+// used since its ask; 0 while it is idle, and beside the state since a row may say otherwise, which 3
+// refuses.
 #[derive(Clone, Copy)]
 pub struct Record {
     pub state: State,
@@ -82,18 +84,18 @@ pub enum Register {
     Mark { block: u16, place: u16 },
 }
 
-// What an access does with its register.
+// What an access does with its register. No `Option`: a read is an access too.
 #[derive(Clone, Copy)]
 pub enum Op {
     Read,
     Write(u32),
 }
 
-// The one register that a call touches, if any, and what it does with it.
+// The one register that a call touches, where it touches one, and what it does with it.
 #[derive(Clone, Copy)]
-pub enum Access {
-    NoAccess,
-    Touch { register: Register, op: Op },
+pub struct Access {
+    pub register: Register,
+    pub op: Op,
 }
 
 // How the probe on the register bus names an access: read or written.
@@ -103,16 +105,13 @@ pub enum Letter {
     W,
 }
 
-// What an answer shows of the call's access: nothing where no register was touched, or the register
-// with the value read from it or written to it.
+// What an answer shows of the call's access, where a register was touched: the register, with the
+// value read from it or written to it.
 #[derive(Clone, Copy)]
-pub enum Shown {
-    Nothing,
-    Touched {
-        letter: Letter,
-        register: Register,
-        value: u32,
-    },
+pub struct Shown {
+    pub letter: Letter,
+    pub register: Register,
+    pub value: u32,
 }
 
 // What a task is called with.
@@ -121,6 +120,22 @@ pub enum Kind {
     Ask,
     Turn,
     Release,
+}
+
+// By its code in a schedule file: 0 ask, 1 turn, 2 release.
+impl TryFrom<u8> for Kind {
+    type Error = Refusal;
+
+    ghost try_from_gives = { λ code kind. kind ≡ kind_coded code };
+
+    fn try_from(code: u8) -> Result<Kind, Refusal> {
+        match code {
+            0 => Ok(Kind::Ask),
+            1 => Ok(Kind::Turn),
+            2 => Ok(Kind::Release),
+            _ => Err(Refusal::EventCode),
+        }
+    }
 }
 
 // A call of one task: an event of a schedule.
@@ -163,7 +178,8 @@ pub enum Refusal {
 }
 
 // What a call sees of the row of records: its length, the index of the first of the N records that
-// is out of range (N where none is), how many of them are out, and the task's own.
+// is out of range (N and no `None` where none is, as `view_of` says), how many of them are out, and the
+// task's own.
 #[derive(Clone, Copy)]
 pub struct View {
     pub length: usize,
@@ -172,53 +188,31 @@ pub struct View {
     pub own: Record,
 }
 
-// What a call's tests say.
-#[derive(Clone, Copy)]
-pub enum Verdict {
-    Accepted,
-    Refused(Refusal),
-}
-
-// What setup, ask, turn and release tell.
+// What setup, ask, turn and release tell where they are accepted.
 #[derive(Clone, Copy)]
 pub enum Told {
     Done,
     Seeks,
     Holds(Name),
     Freed(Name),
-    Refused(Refusal),
 }
 
-// What they answer: what they tell and, of an accepted turn or release, the access that it made.
+// What they answer then: what they tell and, of a turn or release, the access that it made.
 #[derive(Clone, Copy)]
 pub struct Answer {
     pub told: Told,
-    pub shown: Shown,
+    pub shown: Option<Shown>,
 }
 
-// What opening a schedule file answers: its settings and its count of events.
+// What opening a schedule file answers where it is accepted: its settings and its count of events.
 #[derive(Clone, Copy)]
-pub enum Opening {
-    Opened { settings: Settings, count: u16 },
-    Refused(Refusal),
-}
-
-// What a reader answers when asked for its next event.
-#[derive(Clone, Copy)]
-pub enum Reading {
-    Given(Event),
-    Refused(Refusal),
-}
-
-// What writing a schedule file answers: how many bytes it wrote.
-#[derive(Clone, Copy)]
-pub enum Writing {
-    Wrote(usize),
-    Refused(Refusal),
+pub struct Opened {
+    pub settings: Settings,
+    pub count: u16,
 }
 
 impl Refusal {
-    // The number that an operator knows a refusal by.
+    // The number that an operator knows a refusal by: a method and no `From`, since docs/USING.md names it.
     pub fn number(self) -> u16
         ensures { result ≡ number_of self }
     {
@@ -226,7 +220,7 @@ impl Refusal {
             Refusal::Limits => 1,
             Refusal::ShortRow => 2,
             Refusal::BusyRow => 18,
-            Refusal::OutOfRange { row: _, index: _ } => 3,
+            Refusal::OutOfRange { .. } => 3,
             Refusal::NoSuchTask => 4,
             Refusal::OneTime => 5,
             Refusal::TaskIdle => 15,
@@ -244,15 +238,13 @@ impl Refusal {
     }
 }
 
-// A task seeks at a point of the block at (r, c).
-fn seeking(r: u8, c: u8, point: Point) -> State
-    ensures { result ≡ State.Seeking (block r c point) }
-{
-    State::Seeking(Stand {
-        r: r,
-        c: c,
-        point: point,
-    })
+impl Stand {
+    // A task seeks at another point of the same block.
+    fn at(self, point: Point) -> State
+        ensures { result ≡ State.Seeking (block self.r self.c point) }
+    {
+        State::Seeking(Stand { point, ..self })
+    }
 }
 
 impl Settings {
@@ -261,106 +253,79 @@ impl Settings {
     pub fn bound(self) -> u32
         ensures { result ≡ bound self }
     {
-        if self.k == 0 {
-            return 0;
-        }
-        let blocks = self.k as u32 - 1;
+        let blocks = u32::from(self.k).saturating_sub(1);
         if self.mode == 0 {
-            return 4 * blocks;
+            4 * blocks
+        } else {
+            (u32::from(self.n) + 4) * blocks
         }
-        (self.n as u32 + 4) * blocks
     }
 
     // How many marks a block has: one one-time, one for each task long-lived.
     pub fn width(self) -> u16
         ensures { result ≡ width self }
     {
-        if self.mode == 0 {
-            return 1;
-        }
-        self.n
+        if self.mode == 0 { 1 } else { self.n }
     }
 
-    // Where a task comes to (r, c): it holds the edge, and stands at write X on a block.
+    // Where a task comes to (r, c): it holds the edge, and stands at write X on a block. Two numbers and
+    // no `Place`, which a caller would build of a stand.
     pub fn arrive(self, r: u8, c: u8) -> State
         requires { r + c + 1 ≤ self.k }
         ensures { result ≡ arrive self r c }
     {
         if r + c + 1 == self.k {
-            return State::Holding(Place { r: r, c: c });
+            State::Holding(Place { r, c })
+        } else {
+            State::Seeking(Stand {
+                r,
+                c,
+                point: Point::WriteX,
+            })
         }
-        seeking(r, c, Point::WriteX)
     }
 
     // One place to the right or down.
-    fn moved(self, r: u8, c: u8, direction: Direction) -> State
-        requires { r + c + 2 ≤ self.k }
-        ensures { result ≡ move self r c direction }
+    fn moved(self, from: Stand, direction: Direction) -> State
+        requires { from.r + from.c + 2 ≤ self.k }
+        ensures { result ≡ move self from.r from.c direction }
     {
         match direction {
-            Direction::Right => self.arrive(r, c + 1),
-            Direction::Down => self.arrive(r + 1, c),
+            Direction::Right => self.arrive(from.r, from.c + 1),
+            Direction::Down => self.arrive(from.r + 1, from.c),
         }
     }
 
     // Out of a block: at once one-time, by way of the clear long-lived.
-    fn leave(self, r: u8, c: u8, direction: Direction) -> State
-        requires { r + c + 2 ≤ self.k }
-        ensures { result ≡ leave self r c direction }
+    fn leave(self, from: Stand, direction: Direction) -> State
+        requires { from.r + from.c + 2 ≤ self.k }
+        ensures { result ≡ leave self from.r from.c direction }
     {
         if self.mode == 0 {
-            return self.moved(r, c, direction);
-        }
-        seeking(r, c, Point::Clear(direction))
-    }
-
-    // A scan read v at the mark h of the block.
-    fn scanned(self, task: TaskId, r: u8, c: u8, h: u16, v: u32) -> State
-        requires { (r + c + 2 ≤ self.k) × (h < width self) }
-        ensures { result ≡ point_turned self task.0 r c (Point.Scan h) v }
-    {
-        if v == 1 {
-            return self.leave(r, c, Direction::Right);
-        }
-        let width = self.width();
-        if h + 1 == width {
-            return seeking(r, c, Point::WriteMark);
-        }
-        seeking(r, c, Point::Scan(h + 1))
-    }
-
-    // X was read as v: the task holds the block if X is its own.
-    fn own_read(self, task: TaskId, r: u8, c: u8, v: u32) -> State
-        requires { r + c + 2 ≤ self.k }
-        ensures { result ≡ point_turned self task.0 r c Point.ReadX v }
-    {
-        if v == task.0 as u32 + 1 {
-            return State::Holding(Place { r: r, c: c });
-        }
-        self.leave(r, c, Direction::Down)
-    }
-
-    // The turn of a task that seeks in the block at (r, c), where v is the value that it read.
-    fn turned(self, task: TaskId, r: u8, c: u8, point: Point, v: u32) -> State
-        requires { (r + c + 2 ≤ self.k) × T (point_in_range self point) }
-        ensures { result ≡ point_turned self task.0 r c point v }
-    {
-        match point {
-            Point::WriteX => seeking(r, c, Point::Scan(0)),
-            Point::Scan(h) => self.scanned(task, r, c, h, v),
-            Point::WriteMark => seeking(r, c, Point::ReadX),
-            Point::ReadX => self.own_read(task, r, c, v),
-            Point::Clear(direction) => self.moved(r, c, direction),
+            self.moved(from, direction)
+        } else {
+            from.at(Point::Clear(direction))
         }
     }
 
-    // The turn of a seeking task, from where it stands.
+    // The turn of a seeking task, from where it stands, where v is the value that it read.
     fn stand_turned(self, task: TaskId, stand: Stand, v: u32) -> State
         requires { T (stand_in_range self stand) }
         ensures { result ≡ stand_turned self task.0 stand v }
     {
-        let point = stand.point;
-        self.turned(task, stand.r, stand.c, point, v)
+        match stand.point {
+            Point::WriteX => stand.at(Point::Scan(0)),
+            Point::Scan(_) if v == 1 => self.leave(stand, Direction::Right),
+            Point::Scan(h) if h + 1 == self.width() => stand.at(Point::WriteMark),
+            Point::Scan(h) => stand.at(Point::Scan(h + 1)),
+            Point::WriteMark => stand.at(Point::ReadX),
+            Point::ReadX if v == u32::from(task.0) + 1 => State::Holding(Place {
+                r: stand.r,
+                c: stand.c,
+            }),
+            Point::ReadX => self.leave(stand, Direction::Down),
+            Point::Clear(direction) => self.moved(stand, direction),
+        }
     }
 }
 
@@ -371,14 +336,12 @@ impl Record {
         requires { T (record_in_range s self) }
         ensures { result ≡ next_record s Kind.Turn task.0 self v }
     {
-        let state = self.state;
-        match state {
-            State::Idle => self,
+        match self.state {
             State::Seeking(stand) => Record {
                 state: s.stand_turned(task, stand, v),
                 turns: self.turns + 1,
             },
-            State::Holding(_) => self,
+            State::Idle | State::Holding(_) => self,
         }
     }
 }

@@ -16,35 +16,19 @@ use machine::{Name, Place, Settings, TaskId};
 pub fn known_version(version: u16) -> bool
     ensures { result ≡ known_version version }
 {
-    if version == 1 {
-        return true;
-    }
-    version == 2
+    matches!(version, 1 | 2)
 }
 
-// Whether the settings are within the limits.
+// Whether the settings are within the limits. Clauses ask for it, and no function takes a type of such
+// settings: docs/CONTRACTS.md names each of them, and that type would be narrower.
 pub fn permitted(s: Settings) -> bool
     ensures { result ≡ permitted s }
 {
-    if s.mode > 1 {
-        return false;
-    }
-    if s.n < 1 {
-        return false;
-    }
-    if s.n > 256 {
-        return false;
-    }
-    if s.k < 1 {
-        return false;
-    }
-    if s.k > 16 {
-        return false;
-    }
-    if s.k as u16 > s.n {
-        return false;
-    }
-    known_version(s.version)
+    matches!(s.mode, 0 | 1)
+        && matches!(s.n, 1..=256)
+        && matches!(s.k, 1..=16)
+        && s.k as u16 <= s.n
+        && known_version(s.version)
 }
 
 // The half products r(r-1)/2 of r from 0 to 16.
@@ -69,6 +53,7 @@ pub fn blocks(s: Settings) -> usize
 }
 
 // How many names the grid has: one for each block, and one for each of the k places on the edge.
+#[tactic(auto, using(crate::proofs::Counts::blocks_most, machine::proofs::bridge::Numbering::names_half))]
 pub fn names(s: Settings) -> usize
     requires { T (permitted s) }
     ensures { result ≡ names s }
@@ -77,38 +62,41 @@ pub fn names(s: Settings) -> usize
 }
 
 // How many marks the grid needs, all blocks together.
+#[tactic(auto, using(crate::proofs::Counts::counts))]
 pub fn marks_needed(s: Settings) -> usize
     requires { T (permitted s) }
     ensures { result ≡ marks_needed s }
 {
-    let blocks = blocks(s);
-    let width = s.width() as usize;
-    blocks * width
+    blocks(s) * s.width() as usize
 }
 
-// The number of the place at (r, c) in the triangle of side k - less, counted row after row.
-fn place_number(s: Settings, less: u8, r: u8, c: u8) -> usize
-    requires { T (permitted s) × (r + c + less ≤ s.k) }
-    ensures { result ≡ place_number (s.k - less) r c }
+// The number of a place in the triangle of a side, counted row after row.
+#[tactic(auto, using(grid::proofs::Triangle::half_below), unfolding(grid::specs::Triangle::place_number))]
+fn place_number(side: u8, place: Place) -> u16
+    requires { (side ≤ 16) × (place.r + place.c ≤ side) }
+    ensures { result ≡ place_number side place.r place.c }
 {
-    let side = (s.k - less) as usize;
-    r as usize * side - half(r as usize) + c as usize
+    let r = place.r as usize;
+    (r * side as usize - half(r) + place.c as usize) as u16
 }
 
-// The number of the block at (r, c): the blocks are the triangle of side k - 1.
+// The number of the block at (r, c), which a stand has as a place has: the blocks are the triangle of
+// side k - 1.
 pub fn block_number(s: Settings, r: u8, c: u8) -> u16
     requires { T (permitted s) × (r + c + 2 ≤ s.k) }
     ensures { result ≡ block_number s r c }
 {
-    place_number(s, 1, r, c) as u16
+    place_number(s.k - 1, Place { r, c })
 }
 
-// The number of the place at (r, c), counted diagonal after diagonal.
-fn diagonal_number(r: u8, c: u8) -> usize
-    requires { r + c + 1 ≤ 16 }
-    ensures { result ≡ diagonal_number r c }
+// The number of a place, counted diagonal after diagonal.
+#[tactic(auto, using(grid::proofs::Triangle::half_most), unfolding(grid::specs::Triangle::diagonal_number))]
+fn diagonal_number(place: Place) -> u16
+    requires { place.r + place.c + 1 ≤ 16 }
+    ensures { result ≡ diagonal_number place.r place.c }
 {
-    half(r as usize + c as usize + 1) + r as usize
+    let r = place.r as usize;
+    (half(r + place.c as usize + 1) + r) as u16
 }
 
 // The name of a place: the places that can be held are the triangle of side k, numbered by rows in
@@ -118,9 +106,10 @@ pub fn name_at(s: Settings, place: Place) -> Name
     ensures { result ≡ name_at s place }
 {
     if s.version == 1 {
-        return Name(place_number(s, 0, place.r, place.c) as u16);
+        Name(place_number(s.k, place))
+    } else {
+        Name(diagonal_number(place))
     }
-    Name(diagonal_number(place.r, place.c) as u16)
 }
 
 // Where a mark of a block stands in the row of marks, block after block.
@@ -128,16 +117,12 @@ pub fn mark_index(s: Settings, block: u16, place: u16) -> usize
     requires { T (permitted s) × ((block < blocks s) × (place < width s)) }
     ensures { result ≡ mark_index s block place }
 {
-    let width = s.width() as usize;
-    block as usize * width + place as usize
+    block as usize * s.width() as usize + place as usize
 }
 
 // Which of its block's marks is the task's own: the one mark one-time, its own long-lived.
 pub fn own(s: Settings, task: TaskId) -> u16
     ensures { result ≡ own s task.0 }
 {
-    if s.mode == 0 {
-        return 0;
-    }
-    task.0
+    if s.mode == 0 { 0 } else { task.0 }
 }

@@ -2,22 +2,22 @@
 -- accepted setup leaves.
 use mathlib.Core.{Path.{◌≡◌, refl, ap, ◌∙◌}, Logic.{inl, inr, ⊎_elim}, Bool.{Bool, true, false, cond, ◌&&◌}}
 use Prim.Native.Nat.{ℕ, ◌<◌}
+use Rattle.std.specs.Prelude.{Ok}
 use native.Mathlib.Omega.{arith}
-use lib.Dec.{T, eqb}
+use lib.Dec.{eqb}
 use borrow.Author.Tests.{le-leb, lt-leb}
 use Rattle.grid.specs.Triangle.{half, place_number, diagonal_number}
 use Rattle.counting.{specs.Counting.{count, first_bad}, proofs.Tested.misses}
-use Rattle.demands.specs.{Memory.Memory, Answers.{told_accepted, is_accepted, plain}}
-use Rattle.demands.specs.Calls.{call, setup, verdict_of, standing, ask, release}
-use Rattle.machine.specs.Grid.{arrive}
+use Rattle.demands.specs.{Memory.Memory, Answers.{is_accepted, plain}}
+use Rattle.demands.specs.Calls.{call, setup, verdict_of, ask, release}
 use Rattle.machine.specs.promises.Ranges.{WithinLimits}
 use Rattle.demands.specs.promises.Demands.{SetUp}
 use Rattle.machine.proofs.refusals.Limits.{zero_or_one, limits_tested, mode_most}
 use Rattle.demands.proofs.refusals.{Passing.fits, Refusing.within, Passed.{Fit, fit_verdict}}
 use Rattle.demands.proofs.histories.Exact.{setup_takes_largest}
 use Rattle.demands.proofs.calls.Fresh.{setup_within, fresh_idle, fresh_none_out, fresh_fit}
-use Rattle.machine.specs.declared.{Settings.Settings, State.{State, TheVariants.{Idle, Seeking, Holding}}}
-use Rattle.machine.specs.declared.{Verdict.Verdict, Row.TheVariants.{Records, Xs, Marks}}
+use Rattle.machine.specs.declared.{Settings.Settings}
+use Rattle.machine.specs.declared.{Row.TheVariants.{Records, Xs, Marks}}
 use Rattle.text.specs.Decimal.{decimal}
 use Rattle.printed.specs.Edges.{FiveNames, FiveByDiagonal, NoTurns, LoneTask, TheOtherTask, TheListing}
 use Rattle.printed.specs.Edges.{TwoAsks, OneTimeMark, SetupAgain, TwoOut, LastIdentifier, NoRelease}
@@ -72,7 +72,7 @@ two_out = (
 
 -- an ask of a task below N, right after setup, is accepted
 fresh_ask : (s : Settings) (lent : Memory) → SetUp s lent → (p : ℕ) → p < s.n
-    → verdict_of s (ask p) (setup s lent).memory ≡ Verdict.Accepted
+    → verdict_of s (ask p) (setup s lent).memory ≡ Ok tt
 fresh_ask s lent ok p l =
     let k_least = (setup_within s lent ok).k_least in
     fit_verdict s (setup s lent).memory (ask p) (setup_within s lent ok) (fresh_fit s lent ok)
@@ -96,13 +96,8 @@ last_identifier s lent ok all = (
     fit_verdict s (setup s lent).memory (ask 256) (setup_within s lent ok) (fresh_fit s lent ok),
     le-leb s.n 256 (omega arith),
   ),
-  rw (fresh_ask s lent ok 255 (omega arith)) (standing_accepted s (arrive s 0 0)),
+  rw (fresh_ask s lent ok 255 (omega arith)) tt,
 )
-  where
-    standing_accepted : (t : Settings) (state : State) → T (told_accepted (standing t state))
-    standing_accepted t Idle = tt
-    standing_accepted t (Seeking stand) = tt
-    standing_accepted t (Holding place) = tt
 
 one_time_release : (s : Settings) (m : Memory) → s.mode ≡ 0 → WithinLimits s → Fit s m → (p : ℕ) → p < s.n
     → Refuses 5 (call s (release p) m).answer

@@ -4,25 +4,27 @@
 use mathlib.Core.{Path.{◌≡◌, refl, sym, ap, ◌∙◌}, Logic.{◌⊎◌, inl, inr}}
 use mathlib.Core.{Bool.{Bool, true, false, not, cond, ◌&&◌, ◌||◌}, List.{List, [], ◌∷◌, ◌++◌}}
 use Prim.Native.Nat.{ℕ, zero, suc, ◌≤◌, ◌<◌, max, zero-le}
+use Rattle.std.specs.Prelude.{Err, Ok, Result}
 use native.Mathlib.{Nat.{le_refl, max-zero}, Omega.arith}
 use lib.{Dec.{T, eqb, ltb, eqb→eq}, ListN.{get_or, replicate}}
 use borrow.Author.Tests.{lt-ltb, le-ltb}
 use Rattle.machine.specs.{Records.{idle, is_holding, is_out}, Settings.bound}
-use Rattle.demands.specs.{Memory.{Memory, state_of, turns_in, out_of, largest}, Answers.is_accepted}
+use Rattle.demands.specs.{Memory.{Memory, state_of, turns_in, out_of, largest}, Answers.{told_in, Reply, is_accepted}}
 use Rattle.demands.specs.{Calls.{Outcome, name_at, told_of, call, setup}, History.{Answered, counted, turns_of}}
 use Rattle.demands.specs.promises.{Refusing.tasks_out, Demands.{memory_after, history_of, used, HoldsSome}}
 use Rattle.demands.specs.promises.OneAccess.{AcceptedIn}
 use Rattle.demands.proofs.{refusals.{Lines.tasks_out_lem, Passing.{passed, by_the_rules}}, calls.SettingUp.setup_clears}
 use Rattle.demands.proofs.calls.Effects.{only_the_register_written_changes}
+use Rattle.demands.proofs.calls.Telling.{told_accepted, accepted}
 use Rattle.demands.proofs.bridge.Histories.{run_keeps, run_append, history_append, call_few}
 use Rattle.demands.proofs.histories.{Served.turns_append, Demand3.{served_within, each_turns_told, setup_takes}}
 use Rattle.machine.specs.declared.{Settings.Settings, Name.Name, State.{State, TheVariants.{Idle, Seeking, Holding}}}
 use Rattle.machine.specs.declared.{Kind.{Kind, TheVariants.{Ask, Turn, Release}}, Event.Event, Told.Told}
-use Rattle.machine.specs.declared.Answer.{Answer}
-use Rattle.machine.specs.declared.{Record.Record, Opening.Opening}
+use Rattle.machine.specs.declared.{Record.Record}
+use Rattle.machine.specs.declared.Refusal.{Refusal}
 use Rattle.counting.specs.Counting.{tick, count, any_below}
 use Rattle.counting.proofs.{Lists.one_value, Searching.{count_same, count_none}}
-use Rattle.file.specs.File.{code_at, task_at, event_at}
+use Rattle.file.specs.File.{Opening, code_at, task_at, event_at}
 use Rattle.printed.specs.Listing.{Progress, completed, progress, listing_by, holders_of}
 use Rattle.printed.specs.EndLine.{events_of, memory_at, holders_at, out_at, answer_at, Completes, taken_at, turns_since}
 use Rattle.printed.specs.EndLine.{turns_at, lines_of, Attained, NoneCounts, Greatest, EndLineCounted, EndCountsOne}
@@ -83,7 +85,7 @@ module _ (asked turned : ℕ → Bool) where
 -- ---- one call more
 
 -- a count of turns after one more call with its answer, as `turns_of` has it
-abbrev ticked : ℕ → Event → Answer → ℕ → ℕ
+abbrev ticked : ℕ → Event → Reply → ℕ → ℕ
 ticked p event answer turns = cond (is_accepted answer && eqb event.task.0 p) (counted event.kind turns) turns
 
 used_more : (s : Settings) (lent : Memory) (events : List Event) (event : Event) (p : ℕ)
@@ -118,30 +120,30 @@ used_counted s file (suc n) p =
 -- ---- who is told that it holds does
 
 module _ (s : Settings) (name : Name) where
-  not_held : (told : Told) → completed told 1 ≡ 0 → told ≡ Told.Holds name → ⊥
-  not_held told none e = let one = ap (λ (other : Told). completed other 1) e in omega arith
+  not_held : (told : Result Told Refusal) → completed told 1 ≡ 0 → told ≡ Ok (Told.Holds name) → ⊥
+  not_held told none e = let one = ap (λ (other : Result Told Refusal). completed other 1) e in omega arith
 
   -- who is answered that it holds does so in the record that the call leaves
-  standing_held : (after : State) → calls.standing s after ≡ Told.Holds name → T (is_holding after)
-  standing_held Idle e = absurd (not_held Told.Seeks refl e)
-  standing_held (Seeking stand) e = absurd (not_held Told.Seeks refl e)
+  standing_held : (after : State) → accepted (calls.standing s after) ≡ Ok (Told.Holds name) → T (is_holding after)
+  standing_held Idle e = absurd (not_held (Ok Told.Seeks) refl e)
+  standing_held (Seeking stand) e = absurd (not_held (Ok Told.Seeks) refl e)
   standing_held (Holding place) e = tt
 
-  answer_held : (kind : Kind) (before after : State) → told_of s kind before after ≡ Told.Holds name
+  answer_held : (kind : Kind) (before after : State) → accepted (told_of s kind before after) ≡ Ok (Told.Holds name)
       → T (is_holding after)
   answer_held Ask before after e = standing_held after e
   answer_held Turn before after e = standing_held after e
-  answer_held Release Idle after e = absurd (not_held Told.Seeks refl e)
-  answer_held Release (Seeking stand) after e = absurd (not_held Told.Seeks refl e)
-  answer_held Release (Holding place) after e = absurd (not_held (Told.Freed (name_at s place)) refl e)
+  answer_held Release Idle after e = absurd (not_held (Ok Told.Seeks) refl e)
+  answer_held Release (Seeking stand) after e = absurd (not_held (Ok Told.Seeks) refl e)
+  answer_held Release (Holding place) after e = absurd (not_held (Ok (Told.Freed (name_at s place))) refl e)
 
-  held_after : (event : Event) (m : Memory) → (call s event m).answer.told ≡ Told.Holds name
+  held_after : (event : Event) (m : Memory) → told_in (call s event m).answer ≡ Ok (Told.Holds name)
       → HoldsSome (call s event m).memory event.task.0
   held_after event m e =
-      let accepted : AcceptedIn s event m = rw e tt in
-      rw (ap (λ (r : Record). r.state) (only_the_register_written_changes s event m accepted).own)
+      let taken : AcceptedIn s event m = told_accepted (call s event m).answer _ e in
+      rw (ap (λ (r : Record). r.state) (only_the_register_written_changes s event m taken).own)
       (answer_held event.kind (state_of m event.task.0) _
-      (sym (ap (λ (o : Outcome). o.answer.told) (by_the_rules s event m accepted)) ∙ e))
+      (sym (ap (λ (o : Outcome). told_in o.answer) (by_the_rules s event m taken)) ∙ e))
 
 -- ---- the run
 
@@ -150,7 +152,7 @@ module _ (s : Settings) (file : List ℕ) where
   abbrev standing : ℕ → Progress
   standing n = progress s file n
 
-  abbrev answered : ℕ → Answer
+  abbrev answered : ℕ → Reply
   answered n = (call s (event_at file n) (standing n).memory).answer
 
   memory_kept : (n : ℕ) → (standing n).memory ≡ memory_at s file n
@@ -202,7 +204,7 @@ module _ (s : Settings) (file : List ℕ) where
       → turns_in (standing (suc n)).memory (task_at file n).0 ≡ turns_at s file n
   completed_turns n (name, e) =
       let p = (task_at file n).0 in
-      let tests = passed s (event_at file n) (memory_at s file n) (rw e tt) in
+      let tests = passed s (event_at file n) (memory_at s file n) (told_accepted (answer_at s file n) _ e) in
       let holds : HoldsSome (memory_at s file (suc n)) p =
       rw (run_append s (events_of file n) (event_at file n ∷ []) (setup s largest).memory)
       (held_after s name (event_at file n) (memory_at s file n) e) in
@@ -215,25 +217,26 @@ module _ (s : Settings) (file : List ℕ) where
   TurnsMost n a = Greatest n (Completes s file) (turns_at s file) a
 
   -- an answer other than "holds" completes nothing, and 0 is added to what MOST is the greatest of
-  not_completed : (n a : ℕ) (told : Told) → (answer_at s file n).told ≡ told → completed told 1 ≡ 0 → TurnsMost n a
+  not_completed : (n a : ℕ) (told : Result Told Refusal) → told_in (answer_at s file n) ≡ told → completed told 1 ≡ 0
+      → TurnsMost n a
       → TurnsMost (suc n) (max a 0)
   not_completed n a told e none g =
       rw (max-zero a) (one_skipped (Completes s file) (turns_at s file)
-      (λ c. let one = ap (λ (other : Told). completed other 1) (sym e ∙ c.1) in omega arith) g)
+      (λ c. let one = ap (λ (other : Result Told Refusal). completed other 1) (sym e ∙ c.1) in omega arith) g)
 
-  most_more : (n a : ℕ) (told : Told) → (answer_at s file n).told ≡ told → TurnsMost n a
+  most_more : (n a : ℕ) (told : Result Told Refusal) → told_in (answer_at s file n) ≡ told → TurnsMost n a
       → TurnsMost (suc n) (max a (completed told (turns_in (standing (suc n)).memory (task_at file n).0)))
-  most_more n a Told.Done e g = not_completed n a Told.Done e refl g
-  most_more n a Told.Seeks e g = not_completed n a Told.Seeks e refl g
-  most_more n a (Told.Holds name) e g =
+  most_more n a (Ok Told.Done) e g = not_completed n a (Ok Told.Done) e refl g
+  most_more n a (Ok Told.Seeks) e g = not_completed n a (Ok Told.Seeks) e refl g
+  most_more n a (Ok (Told.Holds name)) e g =
       rw (completed_turns n (name, e)) (one_counted (Completes s file) (turns_at s file) (name, e) g)
-  most_more n a (Told.Freed name) e g = not_completed n a (Told.Freed name) e refl g
-  most_more n a (Told.Refused why) e g = not_completed n a (Told.Refused why) e refl g
+  most_more n a (Ok (Told.Freed name)) e g = not_completed n a (Ok (Told.Freed name)) e refl g
+  most_more n a (Err why) e g = not_completed n a (Err why) e refl g
 
   most_kept : (n : ℕ) → TurnsMost n (standing n).most
   most_kept zero = none_yet (Completes s file) (turns_at s file)
-  most_kept (suc n) = most_more n (standing n).most (answered n).told
-      (ap (λ (answer : Answer). answer.told) (sym (answer_kept n))) (most_kept n)
+  most_kept (suc n) = most_more n (standing n).most (told_in (answered n))
+      (ap told_in (sym (answer_kept n))) (most_kept n)
 
 -- ---- MOST within the bound
 
@@ -241,7 +244,7 @@ module _ (s : Settings) (file : List ℕ) where
 completed_within : (s : Settings) (file : List ℕ) (i : ℕ) → Completes s file i → turns_at s file i ≤ bound s
 completed_within s file i (name, e) =
     let p : ℕ = (task_at file i).0 in
-    let tests = passed s (event_at file i) (memory_at s file i) (rw e tt) in
+    let tests = passed s (event_at file i) (memory_at s file i) (told_accepted (answer_at s file i) _ e) in
     let holds : HoldsSome (memory_at s file (suc i)) p =
     rw (run_append s (events_of file i) (event_at file i ∷ []) (setup s largest).memory)
     (held_after s name (event_at file i) (memory_at s file i) e) in

@@ -2,14 +2,14 @@
 -- file has the same listing.
 use mathlib.Core.{Path.{◌≡◌, refl, sym, ap, ◌∙◌}, Bool.{Bool, true, false, not, cond}, List.{List, [], ◌∷◌}}
 use Prim.Native.Nat.{ℕ, ◌≤◌, ◌<◌}
+use Rattle.std.specs.Prelude.{Err}
 use native.Mathlib.Omega.{arith}
 use lib.{Dec.{eqb, ltb}, ListN.{length, take}, Seq.{get_or-take, length-take-le, take_all}}
 use borrow.Author.{Rules.rules, Tests.{le-ltb, ltb-true, ltb-false, ne_eqb}}
 use Rattle.machine.specs.{Settings.known_version, RefusalNumbers.number_of}
-use Rattle.demands.specs.Refusals.{Case, when, first, outside_limits}
+use Rattle.demands.specs.Refusals.{Verdict, Case, when, first, outside_limits}
 use Rattle.machine.specs.declared.Refusal.{Refusal}
 use Rattle.machine.specs.declared.Refusal.TheVariants.{Limits, FileLength, Letters, Version, TooManyEvents, EventCode}
-use Rattle.machine.specs.declared.Verdict.{Verdict, TheVariants.Refused}
 use Rattle.counting.specs.Counting.{any_below}
 use Rattle.file.specs.File.{most_events, file_length, byte_at, letters_right, version_of, settings_of, count_of}
 use Rattle.file.specs.File.{code_bad}
@@ -29,7 +29,7 @@ why file =
 first_of_tests : (letters version limits many wrong : Bool) (rest : List Case) → (many ≡ false → wrong ≡ true)
     → first (when letters Letters ∷ when version Version ∷ when limits Limits ∷ when many TooManyEvents ∷ when wrong
     FileLength ∷ rest)
-    ≡ Refused (why_by letters version limits many)
+    ≡ Err (why_by letters version limits many)
 first_of_tests true version limits many wrong rest w = refl
 first_of_tests false true limits many wrong rest w = refl
 first_of_tests false false true many wrong rest w = refl
@@ -52,7 +52,7 @@ longer_refused file long =
     let limits = outside_limits (settings_of file) in
     let codes = when (any_below (code_bad file) (count_of file)) EventCode ∷ [] in
     let tests = first_of_tests letters version limits _ _ codes (length_wrong file long) in
-    let refused : open_verdict file ≡ Refused (why file) = rw (le-ltb _ _ header) tests in
+    let refused : open_verdict file ≡ Err (why file) = rw (le-ltb _ _ header) tests in
     ap (λ (v : Verdict). listing_by (opening_by v (settings_of file) (count_of file)) file) refused
 
 -- the header of a part that is long enough is the header of the whole

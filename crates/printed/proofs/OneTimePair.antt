@@ -3,14 +3,17 @@
 use mathlib.Core.{Path.{◌≡◌, refl, sym, ap, subst, ◌∙◌}, Bool.{Bool, true, false, cond}}
 use mathlib.Core.List.{List, [], ◌∷◌, ◌++◌}
 use Prim.Native.Nat.{ℕ, suc, ◌+◌, ◌≤◌, ◌<◌}
+use Rattle.std.specs.Prelude.{Result}
 use native.Mathlib.Omega.{arith}
 use lib.{Dec.{T, eqb}, ListN.{get_or, set}}
 use Rattle.machine.specs.{Settings.{width, own}, Places.{block_number, name_number}, Records.is_out}
 use Rattle.demands.specs.Memory.{Memory, mark_index, state_of, out_of}
 use Rattle.demands.specs.{Calls.{Outcome, event_of, told_of, next_state, accept, setup}, History.history}
 use Rattle.demands.specs.promises.Demands.{SetUp}
+use Rattle.demands.specs.Answers.{told_in}
 use Rattle.machine.specs.promises.Ranges.{WithinLimits}
 use Rattle.demands.proofs.calls.Fresh.{setup_within, fresh_idle, fresh_none_out}
+use Rattle.demands.proofs.calls.Telling.{accepted}
 use Rattle.demands.proofs.bridge.AsGrid.{x_on_block, mark_on_block, x_put, mark_put}
 use Rattle.demands.proofs.bridge.Histories.{fresh_in_order, fresh_unmarked}
 use Rattle.demands.proofs.histories.Laps.{Took, turn_took, ask_took}
@@ -19,29 +22,30 @@ use Rattle.machine.specs.declared.Point.TheVariants.{WriteX, Scan, WriteMark, Re
 use Rattle.machine.specs.Places.{block, cell}
 use Rattle.machine.specs.declared.State.{State, TheVariants.{Idle, Seeking, Holding}}
 use Rattle.machine.specs.declared.{Kind.{Kind, TheVariants.{Ask, Turn}}, Event.Event, Told.Told}
+use Rattle.machine.specs.declared.Refusal.{Refusal}
 use Rattle.machine.proofs.bridge.Turning.{scan_marked, scan_done, reads_own}
 use Rattle.machine.proofs.bridge.Arriving.{arrive_edge, arrive_block, leave_at_once}
 use Rattle.grid.specs.Triangle.{half, place_number, diagonal_number}
-use Rattle.printed.specs.Edges.{told_in, acquires, served_at, OneTimePair}
+use Rattle.printed.specs.Edges.{told_each, acquires, served_at, OneTimePair}
 use Rattle.counting.proofs.Counting.{count_but_one}
 
 -- what the calls are told, from m on
-record Heard (s : Settings) (events : List Event) (m : Memory) (told : List Told) : Type 0 where
-  are : told_in (history s events m) ≡ told
+record Heard (s : Settings) (events : List Event) (m : Memory) (told : List (Result Told Refusal)) : Type 0 where
+  are : told_each (history s events m) ≡ told
 
 heard_nothing : {s : Settings} {m : Memory} → Heard s [] m []
 heard_nothing = record { are = refl }
 
 -- an accepted call that leaves its task at `to`, and the calls after it
 heard : {s : Settings} {fair : WithinLimits s} {kind : Kind} {p : ℕ} {state : State} {m : Memory}
-    {events : List Event} {rest : List Told}
+    {events : List Event} {rest : List (Result Told Refusal)}
     (to : State) → Took s fair kind p state m → next_state s kind p state m ≡ to
     → Heard s events (accept s kind p state m).memory rest
-    → Heard s (event_of kind p ∷ events) m (told_of s kind state to ∷ rest)
+    → Heard s (event_of kind p ∷ events) m (accepted (told_of s kind state to) ∷ rest)
 heard {s = s} {kind = kind} {p = p} {state = state} {m = m} {events = events} {rest = rest} to took e more = record {
-  are = ap (λ (o : Outcome). o.answer.told ∷ told_in (history s events o.memory)) took.does
-      ∙ ap (λ (l : List Told). (accept s kind p state m).answer.told ∷ l) more.are
-      ∙ ap (λ (z : State). told_of s kind state z ∷ rest) e;
+  are = ap (λ (o : Outcome). told_in o.answer ∷ told_each (history s events o.memory)) took.does
+      ∙ ap (λ (l : List (Result Told Refusal)). told_in (accept s kind p state m).answer ∷ l) more.are
+      ∙ ap (λ (z : State). accepted (told_of s kind state z) ∷ rest) e;
 }
 
 -- with k = 2 the names at (0, 0) and (0, 1) are 0 and 1

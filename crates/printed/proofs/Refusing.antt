@@ -1,18 +1,20 @@
 -- Listing a file is refused exactly where the room is short, and else leaves the listing at the start of the room.
 use mathlib.Core.{Path.{◌≡◌, refl, sym, ap, ◌∙◌}, Logic.{inl, inr, ⊎_elim, ◌↔◌}, List.{List, [], ◌∷◌}}
 use Prim.Native.Nat.{ℕ, ◌<◌}
+use Rattle.std.specs.Prelude.{Err, Ok}
 use native.Mathlib.Omega.{arith}
 use lib.{Dec.ltb, ListN.length}
-use Rattle.demands.specs.Refusals.{when}
+use Rattle.demands.specs.Refusals.{Verdict, when}
 use Rattle.machine.specs.RefusalNumbers.{Said, number_of}
 use Rattle.demands.specs.promises.Refusing.{NoneHolds}
 use Rattle.machine.proofs.refusals.Numbered.{refusal_says}
 use Rattle.demands.proofs.refusals.Deciding.{Are, refused_exactly, accepted_verdict, refusal_keeps}
-use Rattle.machine.specs.declared.{Opening.Opening, Refusal.TheVariants.ShortRoom}
-use Rattle.machine.specs.declared.Verdict.{Verdict, TheVariants.Accepted}
+use Rattle.machine.specs.declared.{Refusal.TheVariants.ShortRoom}
 use Rattle.counting.proofs.Tested.{below, meaning}
-use Rattle.file.specs.{File.{opening, opening_said, writing_said}, Refusing.{in_header, sixteen, open_lines}}
+use Rattle.file.specs.File.{opened_as, Opening, opening, opening_said, writing_said}
+use Rattle.file.specs.Refusing.{in_header, sixteen, open_lines}
 use Rattle.file.proofs.Refusing.{each_opening}
+use Rattle.file.proofs.Headers.{opened_alike}
 use Rattle.printed.specs.{Listing.listing, Listed.{room_by, room_for, list_verdict, listed_by}}
 use Rattle.printed.specs.Refusing.{RoomShort, list_lines, ListingTold, EachListing}
 
@@ -22,17 +24,17 @@ module _ (file room : List ℕ) where
   short_line = go (opening file) refl
     where
       go : (o : Opening) → opening file ≡ o → (length room < room_by o) ↔ RoomShort file room
-      go (Opening.Opened s n) is =
+      go (Ok opened) is =
           let told = each_opening file in
           let none : (opening_said (opening file)).number ≡ 0 = ap (λ (o : Opening). (opening_said o).number) is in
           let opens = told.exactly.accepted.0 none in
-          let same : Opening.Opened (in_header file) (sixteen file 9) ≡ Opening.Opened s n = sym (told.answers none)
-          ∙ is in
-          let count : sixteen file 9 ≡ n = cc in (
+          let same : opened_as (in_header file) (sixteen file 9) ≡ Ok opened = sym (told.answers none) ∙ is in
+          let count : sixteen file 9 ≡ opened.count = (opened_alike (in_header file) opened.settings
+          (sixteen file 9) opened.count same).1 in (
             λ short. inl (opens, omega arith),
             ⊎_elim (λ short. let l = short.1 in omega arith) (λ closed. absurd (closed.0 opens)),
           )
-      go (Opening.Refused why) is =
+      go (Err why) is =
           let low = (refusal_says why).0 in
           let number : (opening_said (opening file)).number ≡ number_of why =
           ap (λ (o : Opening). (opening_said o).number) is in
@@ -43,7 +45,7 @@ module _ (file room : List ℕ) where
   abbrev says : Verdict → Said
   says v = writing_said (listed_by v (listing file) room).answer
 
-  listed_passed : (says (list_verdict file room)).number ≡ 0 → list_verdict file room ≡ Accepted
+  listed_passed : (says (list_verdict file room)).number ≡ 0 → list_verdict file room ≡ Ok tt
   listed_passed = accepted_verdict says refl (λ why. refl) (list_verdict file room)
 
   room_are : Are (when (ltb (length room) (room_for file)) ShortRoom ∷ []) (list_lines file room)

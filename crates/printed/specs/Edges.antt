@@ -4,17 +4,16 @@
 -- on the largest memory: setup clears what is needed, and by `SurplusNeverBears` the rest changes no answer
 -- (docs/DECISIONS.md).
 use mathlib.Core.{Path.◌≡◌, Logic.◌⊎◌, List.{List, [], ◌∷◌, ◌++◌, map}}
-use Rattle.std.specs.Prelude.{ℕ, ◌+◌, ◌≤◌, ◌<◌, T}
+use Rattle.std.specs.Prelude.{Result, Ok, ℕ, ◌+◌, ◌≤◌, ◌<◌, T}
 use Rattle.machine.specs.Places.{name_number}
-use Rattle.demands.specs.{Memory.{Memory, largest}, Answers.{said, is_accepted, plain}}
+use Rattle.demands.specs.{Memory.{Memory, largest}, Answers.{Reply, told_in, said, is_accepted, plain}}
 use Rattle.demands.specs.{Calls.{call, setup, ask, release}, History.{Answered, turns}}
 use Rattle.demands.specs.promises.Refusing.{NoneHolds, lent_lines, range_lines}
 use Rattle.demands.specs.promises.Demands.{SetUp, memory_after, history_of, used}
-use Rattle.machine.specs.Settings.{bound}
-use Rattle.machine.specs.declared.{Settings.Settings, Event.Event, Answer.Answer}
+use Rattle.machine.specs.{Settings.bound, Turn.show}
+use Rattle.machine.specs.declared.{Settings.Settings, Event.Event, Refusal.Refusal}
 use Rattle.machine.specs.declared.Told.{Told, TheVariants.{Done, Seeks, Holds, Freed}}
 use Rattle.machine.specs.declared.{Register.TheVariants.Mark, Letter.TheVariants.W}
-use Rattle.machine.specs.declared.Shown.TheVariants.{Touched}
 use Rattle.text.specs.Decimal.{bytes_of}
 use Rattle.printed.specs.{EndLine.events_of, Listing.listing}
 
@@ -30,32 +29,32 @@ abbrev pub named : ℕ → Told
 named n = Holds (record { 0 = n })
 
 -- what calls are told
-abbrev pub told_in : List Answered → List Told
-told_in = map (λ (done : Answered). done.answer.told)
+abbrev pub told_each : List Answered → List (Result Told Refusal)
+told_each = map (λ (done : Answered). told_in done.answer)
 
 -- what a run of calls is told, on the largest lent memory
-abbrev pub told : Settings → List Event → List Told
-told s events = told_in (history_of s largest events)
+abbrev pub told : Settings → List Event → List (Result Told Refusal)
+told s events = told_each (history_of s largest events)
 
 -- a task asks and takes so many turns
 abbrev pub acquires : ℕ → ℕ → List Event
 acquires p count = ask p ∷ turns count p
 
 -- so many times "seeks"
-abbrev pub seeks_for : ℕ → List Told
+abbrev pub seeks_for : ℕ → List (Result Told Refusal)
 seeks_for ℕ.zero = []
-seeks_for (ℕ.suc count) = Seeks ∷ seeks_for count
+seeks_for (ℕ.suc count) = Ok Seeks ∷ seeks_for count
 
 -- a task is told that it seeks by its ask and by all of so many turns but the last, which gives it the name
-abbrev pub served_at : ℕ → ℕ → List Told
-served_at count name = seeks_for count ++ (named name ∷ [])
+abbrev pub served_at : ℕ → ℕ → List (Result Told Refusal)
+served_at count name = seeks_for count ++ (Ok (named name) ∷ [])
 
 -- an answer is the refusal of this number
-abbrev pub Refuses : ℕ → Answer → Type 0
+abbrev pub Refuses : ℕ → Reply → Type 0
 Refuses n answer = (said answer).number ≡ n
 
 -- the answer of one more call after a run
-abbrev pub last_of : Settings → List Event → Event → Answer
+abbrev pub last_of : Settings → List Event → Event → Reply
 last_of s events event = (call s event (memory_after s largest events)).answer
 
 -- 01's sixteen events, and its listing with the fields of 02, P6
@@ -114,7 +113,7 @@ abbrev pub OneTimePair : Type 0
 OneTimePair =
     (s : Settings) (lent : Memory) → SetUp s lent → s.mode ≡ 0 → s.k ≡ 2 → (p q : ℕ) → p < s.n → q < s.n
     → (q ≡ p → ⊥)
-    → told_in (history_of s lent (acquires p 4 ++ acquires q 2)) ≡ served_at 4 0 ++ served_at 2 1
+    → told_each (history_of s lent (acquires p 4 ++ acquires q 2)) ≡ served_at 4 0 ++ served_at 2 1
 
 -- The listing above, whose task 0 uses 6 turns, the bound for N = 2, k = 2
 abbrev pub TheListing : Type 0
@@ -165,7 +164,7 @@ ThirdTask p q r =
     × (last_of (settings 1 3 2 1) (ask p ∷ ask q ∷ (turns 6 p ++ (release p ∷ []))) (ask r) ≡ plain Seeks)
     × Refuses 7 (last_of (settings 1 3 2 1) both_hold (ask r))
     × (last_of (settings 1 3 2 1) both_hold (release p)
-    ≡ record { told = Freed (record { 0 = 0 }); shown = Touched W (Mark 0 p) 0 })
+    ≡ Ok (record { told = Freed (record { 0 = 0 }); shown = show W (Mark 0 p) 0 }))
     × (last_of (settings 1 3 2 1) both_hold (release q) ≡ plain (Freed (record { 0 = 1 })))
     × (last_of (settings 1 3 2 1) (both_hold ++ (release p ∷ [])) (ask r) ≡ plain Seeks)
     × (last_of (settings 1 3 2 1) (both_hold ++ (release q ∷ [])) (ask r) ≡ plain Seeks)

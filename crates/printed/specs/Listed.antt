@@ -1,16 +1,16 @@
 -- What listing a file into lent room leaves.
-use Rattle.std.specs.Prelude.{List, [], ◌∷◌, ◌++◌, ℕ, ◌+◌, ◌*◌}
+use Rattle.std.specs.Prelude.{Err, Ok, List, [], ◌∷◌, ◌++◌, ℕ, ◌+◌, ◌*◌}
 use lib.{Dec.ltb, ListN.{length, drop}}
-use Rattle.demands.specs.Refusals.{when, first}
-use Rattle.machine.specs.declared.{Opening.Opening, Refusal.TheVariants.ShortRoom, Verdict.Verdict, Writing.Writing}
-use Rattle.file.specs.File.{opening, Written, written_of}
+use Rattle.demands.specs.Refusals.{Verdict, when, first}
+use Rattle.machine.specs.declared.{Refusal.TheVariants.ShortRoom}
+use Rattle.file.specs.File.{Opening, opening, Written, written_of}
 use Rattle.printed.specs.Listing.{listing}
 
 -- room that is enough for every listing: 23 bytes for the first line, 56 for an event's, 27 for the last; 14 where the
 -- file is refused
 abbrev pub room_by : Opening → ℕ
-room_by (Opening.Opened settings count) = 50 + 56 * count
-room_by (Opening.Refused why) = 14
+room_by (Ok opened) = 50 + 56 * opened.count
+room_by (Err why) = 14
 
 abbrev pub room_for : List ℕ → ℕ
 room_for file = room_by (opening file)
@@ -21,8 +21,8 @@ list_verdict file room = first (when (ltb (length room) (room_for file)) ShortRo
 
 -- just the text, from the start of the room, and how long it is; a refusal leaves the room as it was
 abbrev pub listed_by : Verdict → List ℕ → List ℕ → Written
-listed_by Verdict.Accepted text room = written_of (Writing.Wrote (length text)) (text ++ drop (length text) room)
-listed_by (Verdict.Refused why) text room = written_of (Writing.Refused why) room
+listed_by (Ok accepted) text room = written_of (Ok (length text)) (text ++ drop (length text) room)
+listed_by (Err why) text room = written_of (Err why) room
 
 abbrev pub listed : List ℕ → List ℕ → Written
 listed file room = listed_by (list_verdict file room) (listing file) room

@@ -1,11 +1,11 @@
 -- 01, "The listing, whole", and 02, P6: what each line says, byte by byte and number by number. No text of
 -- `specs/Listing` is cited: words stand here as their bytes, and a number is any text that is that number in plain
 -- decimal. Theorem: `lines_spelt`.
-use Rattle.std.specs.Prelude.{List, [], ◌∷◌, ◌++◌, ℕ, ◌≤◌}
+use Rattle.std.specs.Prelude.{Err, None, Some, Ok, Option, List, [], ◌∷◌, ◌++◌, ℕ, ◌≤◌}
 use Rattle.text.specs.Plain.{Plain}
-use Rattle.demands.specs.Answers.{said, plain}
+use Rattle.demands.specs.Answers.{said}
 use Rattle.machine.specs.declared.{Settings.Settings, Name.Name, Kind.{Kind, TheVariants.{Ask, Turn, Release}}}
-use Rattle.machine.specs.declared.{Event.Event, Refusal.Refusal, Shown.{Shown, TheVariants.{Nothing, Touched}}}
+use Rattle.machine.specs.declared.{Event.Event, Refusal.Refusal, Shown.Shown}
 use Rattle.machine.specs.declared.{Register.{Register, TheVariants.{X, Mark}}, Letter.{Letter, TheVariants.{R, W}}}
 use Rattle.machine.specs.declared.Told.{Told}
 use Rattle.file.specs.File.{opening, opening_said}
@@ -77,11 +77,11 @@ event_pieces position event answer =
 
 -- 02, P6: what the line of an accepted turn or release ends with, as in `R X 0 0 2` or `W M 0 1 1`; "`none` when it
 -- touched nothing; ask lines stay as they are"
-abbrev pub fields : Shown → List Piece
-fields Nothing = none ∷ []
-fields (Touched how of value) = letter how ∷ space ∷ (register of ++ (space ∷ number value ∷ []))
+abbrev pub fields : Option Shown → List Piece
+fields None = none ∷ []
+fields (Some shown) = letter shown.letter ∷ space ∷ (register shown.register ++ (space ∷ number shown.value ∷ []))
 
-abbrev pub behind : Kind → Shown → List Piece
+abbrev pub behind : Kind → Option Shown → List Piece
 behind Ask shown = []
 behind Turn shown = space ∷ fields shown
 behind Release shown = space ∷ fields shown
@@ -92,18 +92,18 @@ pub record LinesSpelt : Type 0 where
       → Spells (grid ∷ space ∷ number s.mode ∷ space ∷ number s.n ∷ space ∷ number s.k ∷ line_feed ∷ [])
       (grid_line s)
   -- "ANSWER `seeks`, `holds NAME`, `freed NAME` or `refused NUMBER`"
-  pub seeks_line : (position : ℕ) (event : Event) (shown : Shown)
+  pub seeks_line : (position : ℕ) (event : Event) (shown : Option Shown)
       → Spells (event_pieces position event (seeks ∷ behind event.kind shown))
-      (event_line position event (record { told = Told.Seeks; shown = shown }))
-  pub holds_line : (position : ℕ) (event : Event) (name : Name) (shown : Shown)
+      (event_line position event (Ok (record { told = Told.Seeks; shown = shown })))
+  pub holds_line : (position : ℕ) (event : Event) (name : Name) (shown : Option Shown)
       → Spells (event_pieces position event (holds ∷ space ∷ number name.0 ∷ behind event.kind shown))
-      (event_line position event (record { told = Told.Holds name; shown = shown }))
-  pub freed_line : (position : ℕ) (event : Event) (name : Name) (shown : Shown)
+      (event_line position event (Ok (record { told = Told.Holds name; shown = shown })))
+  pub freed_line : (position : ℕ) (event : Event) (name : Name) (shown : Option Shown)
       → Spells (event_pieces position event (freed ∷ space ∷ number name.0 ∷ behind event.kind shown))
-      (event_line position event (record { told = Told.Freed name; shown = shown }))
-  pub refused_line_lem : (position : ℕ) (event : Event) (why : Refusal) (shown : Shown)
-      → Spells (event_pieces position event (refused ∷ space ∷ number (said (plain (Told.Refused why))).number ∷ []))
-      (event_line position event (record { told = Told.Refused why; shown = shown }))
+      (event_line position event (Ok (record { told = Told.Freed name; shown = shown })))
+  pub refused_line_lem : (position : ℕ) (event : Event) (why : Refusal)
+      → Spells (event_pieces position event (refused ∷ space ∷ number (said (Err why)).number ∷ []))
+      (event_line position event (Err why))
   -- `end HOLDERS PEAK MOST`
   pub last_line : (holders peak most : ℕ)
       → Spells (end ∷ space ∷ number holders ∷ space ∷ number peak ∷ space ∷ number most ∷ line_feed ∷ [])

@@ -1,5 +1,6 @@
 // One task's record, by value: where the task stands, which register its next call touches, the
-// record after the call, and what the call tells.
+// record after the call, and what the call tells. Clauses ask `permitted s`, as those of `places` do and
+// for the reason that stands there.
 
 #![tactic(auto)]
 
@@ -7,51 +8,44 @@ ghost use Rattle.std.specs.Prelude.{◌≡◌, T};
 ghost use Rattle.machine.specs.Settings.{permitted};
 ghost use Rattle.machine.specs.Records.{state_in_range, record_in_range, is_idle, is_seeking, is_holding};
 ghost use Rattle.machine.specs.Turn.{access, next_record};
-ghost use Rattle.demands.specs.Calls.{standing, freed, told_of};
+ghost use Rattle.demands.specs.Calls.{told_of};
+ghost use Rattle.records.specs.Held.{held_name};
 
 use accesses::{release_access, turn_access};
-use machine::{Access, Kind, Record, Settings, State, TaskId, Told};
+use machine::{Access, Kind, Name, Record, Settings, State, TaskId, Told};
 use places::name_at;
+
+// Three tests of a line each, and no one with the state as a parameter: docs/CONTRACTS.md names each.
 
 // Whether the task is idle.
 pub fn is_idle(this: Record) -> bool
     ensures { result ≡ is_idle this.state }
 {
-    let state = this.state;
-    if let State::Idle = state { true } else { false }
+    matches!(this.state, State::Idle)
 }
 
 // Whether the task seeks.
 pub fn is_seeking(this: Record) -> bool
     ensures { result ≡ is_seeking this.state }
 {
-    let state = this.state;
-    if let State::Seeking(_) = state {
-        true
-    } else {
-        false
-    }
+    matches!(this.state, State::Seeking(_))
 }
 
 // Whether the task holds a name.
 pub fn is_holding(this: Record) -> bool
     ensures { result ≡ is_holding this.state }
 {
-    let state = this.state;
-    if let State::Holding(_) = state {
-        true
-    } else {
-        false
-    }
+    matches!(this.state, State::Holding(_))
 }
 
-// The register that a call touches: none for an ask.
-pub fn access(s: Settings, kind: Kind, task: TaskId, this: Record) -> Access
+// The register that a call touches: none for an ask. Kind and task are two parameters, as the
+// definitions have them.
+pub fn access(s: Settings, kind: Kind, task: TaskId, this: Record) -> Option<Access>
     requires { T (permitted s) × T (state_in_range s this.state) }
     ensures { result ≡ access s kind task.0 this.state }
 {
     match kind {
-        Kind::Ask => Access::NoAccess,
+        Kind::Ask => None,
         Kind::Turn => turn_access(s, task, this),
         Kind::Release => release_access(s, task, this),
     }
@@ -75,40 +69,25 @@ pub fn next(s: Settings, kind: Kind, task: TaskId, this: Record, v: u32) -> Reco
     }
 }
 
-// What an ask or a turn tells that leaves this record: "seeks", or "holds" with the name.
-fn standing(s: Settings, this: Record) -> Told
+// The name of the place that the task holds.
+fn held(s: Settings, this: Record) -> Option<Name>
     requires { T (permitted s) × T (state_in_range s this.state) }
-    ensures { result ≡ standing s this.state }
+    ensures { result ≡ held_name s this.state }
 {
-    let state = this.state;
-    match state {
-        State::Idle => Told::Seeks,
-        State::Seeking(_) => Told::Seeks,
-        State::Holding(place) => Told::Holds(name_at(s, place)),
+    match this.state {
+        State::Holding(place) => Some(name_at(s, place)),
+        State::Idle | State::Seeking(_) => None,
     }
 }
 
-// What a release tells that finds this record: the freed name.
-fn freed(s: Settings, this: Record) -> Told
-    requires { T (permitted s) × T (state_in_range s this.state) }
-    ensures { result ≡ freed s this.state }
-{
-    let state = this.state;
-    match state {
-        State::Idle => Told::Seeks,
-        State::Seeking(_) => Told::Seeks,
-        State::Holding(place) => Told::Freed(name_at(s, place)),
-    }
-}
-
-// What an accepted call tells, from the record before it and the record after it.
+// What an accepted call tells, from the record before it and the record after it: "seeks", or "holds"
+// with the name; of a release the freed name.
 pub fn told(s: Settings, kind: Kind, before: Record, after: Record) -> Told
     requires { T (permitted s) × T (state_in_range s before.state) × T (state_in_range s after.state) }
     ensures { result ≡ told_of s kind before.state after.state }
 {
     match kind {
-        Kind::Ask => standing(s, after),
-        Kind::Turn => standing(s, after),
-        Kind::Release => freed(s, before),
+        Kind::Ask | Kind::Turn => held(s, after).map_or(Told::Seeks, Told::Holds),
+        Kind::Release => held(s, before).map_or(Told::Seeks, Told::Freed),
     }
 }

@@ -1,10 +1,13 @@
 -- The first value of a row that is above a limit, as a search finds it: everything passed is at most the limit, and
 -- what it stopped at is above.
-use mathlib.Core.{Path.{◌≡◌, sym}, List.List, Logic.{◌⊎◌, inl, inr}}
+use mathlib.Core.{Path.{◌≡◌, sym}, Bool.cond, List.List, Logic.{◌⊎◌, inl, inr}}
 use Prim.Native.Nat.{ℕ, suc, ◌+◌, ◌*◌, ◌≤◌, ◌<◌}
-use native.Mathlib.{Nat.{le_of_lt, suc-mul, mul-le-mul_right, le_trans}, Numerals.add-one, Decide.dec_le, Omega.arith}
-use borrow.Author.{Count.below_more, Tests.{lt-leb, leb-false}}
-use lib.{Dec.{leb, le→leb}, ListN.get_or}
+use native.Mathlib.{Nat.{le_of_lt, suc-mul, mul-le-mul_right}, Numerals.add-one, Decide.dec_le, Omega.arith}
+use borrow.Author.Tests.{le-ltb, lt-ltb, lt-leb, leb-false}
+use lib.{Dec.{leb, le→leb, leb→le}, ListN.get_or}
+use Rattle.std.specs.{Prelude.{Some, None, nat_lt, unwrap_or, take, length}, List.{position, position_or_len}}
+use Rattle.std.proofs.lemmas.Bool.Decides.{nat_tests}
+use Rattle.std.proofs.lemmas.List.{get_or-take, length-take-le, Sums.position_or_len_is}
 use Rattle.demands.specs.Memory.{marks_needed, bad_mark}
 use Rattle.machine.specs.declared.Settings.{Settings}
 use Rattle.counting.{specs.Counting.first_bad, proofs.Searching.{first_bad_first, first_bad_is, none_bad}}
@@ -12,12 +15,6 @@ use Rattle.counting.{specs.Counting.first_bad, proofs.Searching.{first_bad_first
 -- everything below n in a row is at most the limit
 abbrev pub Low : List ℕ → ℕ → ℕ → Type 0
 Low row limit n = (j : ℕ) → j < n → get_or row j 0 ≤ limit
-
-pub low_more : (row : List ℕ) (limit i : ℕ) → Low row limit i → get_or row i 0 ≤ limit → Low row limit (i + 1)
-low_more row limit i low at = below_more _ _ low at
-
-pub low_wider : (row : List ℕ) (least most i : ℕ) → Low row least i → least ≤ most → Low row most i
-low_wider row least most i low l j h = le_trans (low j h) l
 
 abbrev pub first_above : List ℕ → ℕ → ℕ → ℕ
 first_above row limit n = first_bad (λ i. leb (get_or row i 0) limit) n
@@ -35,6 +32,25 @@ module _ (row : List ℕ) (limit n : ℕ) where
   stops_at_none low =
       sym (none_bad (λ j. leb (get_or row j 0) limit) n (λ j h. le→leb (get_or row j 0) limit (low j h)))
 
+-- as an iterator finds it
+pub first_above_position : (row : List ℕ) (limit n : ℕ) → n ≤ length row
+    → unwrap_or (position (λ x. nat_lt limit x) (take n row)) n ≡ first_above row limit n
+first_above_position row limit n enough =
+    let first = first_bad_first (λ i. leb (get_or row i 0) limit) n in
+    let i = first_above row limit n in
+    let within : i ≤ n = first.within in
+    let long = length-take-le n row enough in
+    let at : position_or_len (λ x. nat_lt limit x) (take n row) ≡ i =
+    position_or_len_is (λ x. nat_lt limit x) (take n row) i 0 (omega (arith, long))
+    (λ k h. let there : k < n = omega arith in
+    rw get_or-take (le-ltb limit (get_or row k 0) (leb→le (get_or row k 0) limit (first.before k h))))
+    (λ h. let there : i < n = omega (arith, long) in
+    rw get_or-take (lt-ltb limit (get_or row i 0) (leb-false (get_or row i 0) limit (first.fails there)))) in
+    rw (at, long) (or_n i within)
+  where
+    or_n : (i : ℕ) → i ≤ n → unwrap_or (cond (nat_lt i n) (Some i) None) n ≡ i
+    or_n i within = grind (arith, nat_tests)
+
 -- either none of the first n is above the limit, or the one that is found is
 pub first_above_found : (row : List ℕ) (limit n : ℕ)
     → (first_above row limit n ≡ n)
@@ -46,6 +62,15 @@ first_above_found row limit n =
       | yes found ↦ inr (found, leb-false (get_or row (first_bad good n) 0) limit (first.fails found))
       | no none ↦ let within = first.within in inl (omega arith)
     ]
+
+-- the same, of the first n as a part of the row
+pub first_above_in : (row : List ℕ) (limit n : ℕ) → n ≤ length row
+    → (first_above row limit n ≡ n)
+    ⊎ ((first_above row limit n < length (take n row)) × (limit < get_or (take n row) (first_above row limit n) 0))
+first_above_in row limit n enough = elim (first_above_found row limit n) [
+  | inl none ↦ inl none
+  | inr (found, above) ↦ inr (omega (arith, length-take-le n row enough), rw get_or-take above)
+]
 
 -- ---- block by block
 
@@ -67,3 +92,10 @@ pub bad_mark_found : (s : Settings) (marks : List ℕ)
     → (bad_mark s marks ≡ marks_needed s)
     ⊎ ((bad_mark s marks < marks_needed s) × (1 < get_or marks (bad_mark s marks) 0))
 bad_mark_found s marks = first_above_found marks 1 (marks_needed s)
+
+-- the same, of the needed marks as a part of the row
+pub bad_mark_in : (s : Settings) (marks : List ℕ) → marks_needed s ≤ length marks
+    → (bad_mark s marks ≡ marks_needed s)
+    ⊎ ((bad_mark s marks < length (take (marks_needed s) marks))
+    × (1 < get_or (take (marks_needed s) marks) (bad_mark s marks) 0))
+bad_mark_in s marks enough = first_above_in marks 1 (marks_needed s) enough

@@ -1,4 +1,4 @@
 -- Laws of the registers that belong to no one function.
 pub mod Finding
-pub mod Touching
+pub mod Filling
 pub mod Determined

@@ -1,61 +1,51 @@
 // The rows of registers: X numbers and marks. The first value out of range of each, the one access of
-// a call, and the clearing of a setup.
+// a call, and the clearing of a setup. Clauses ask `permitted s`, as those of `places` do and for the
+// reason that stands there.
 
 #![tactic(auto)]
 
-ghost use Rattle.std.specs.Prelude.{◌≡◌, ℕ, ◌≤◌, ◌<◌, T, length, get_or};
+ghost use Rattle.std.specs.Prelude.{◌≡◌, ℕ, ◌≤◌, ◌<◌, ◌^◌, T, length, slice_index, EachIndex, refl};
 ghost use Rattle.machine.specs.Settings.{permitted};
 ghost use Rattle.machine.specs.Places.{blocks};
 ghost use Rattle.demands.specs.Memory.{marks_needed, bad_x, bad_mark, fill};
 ghost use Rattle.demands.specs.promises.OneAccess.{RegisterNeeded, Writable};
-ghost use Rattle.registers.specs.Touching.{rows, OnRow, Small, touched, touching};
+ghost use Rattle.registers.specs.Touching.{rows, OnRegister, Below, touched, touching};
 
 use machine::{Access, Op, Register, Settings};
 
 // ---- what is out of range
 
-// The index of the first needed X number that is out of range; their count where none is.
+// The index of the first needed X number that is out of range; their count where none is, and no
+// `None`, as the definition has it with which `range_cases` compares.
 pub fn bad_x(s: Settings, xs: &[u32]) -> usize
     requires { T (permitted s) × (blocks s ≤ length xs.now) }
     ensures { result ≡ bad_x s xs.now }
 {
     let blocks = places::blocks(s);
     let most = s.n as u32;
-    let mut i = 0;
-    while i < blocks {
-        if xs[i] > most {
-            return i;
-        }
-        i += 1;
-    }
-    blocks
+    xs[..blocks]
+        .iter()
+        .position(|x| *x > most)
+        .unwrap_or(blocks)
 }
 
-// The largest of the first n marks. It has no way out of its loop, so it runs at full speed.
-fn largest_mark(marks: &[u8], n: usize) -> u8
-    requires { n ≤ length marks.now }
-    ensures { (i : ℕ) → i < n → get_or marks.now i 0 ≤ result }
+// The largest mark; 0 where there is none. It looks at all of them, with no way out, and so at full
+// speed.
+fn largest_mark(marks: &[u8]) -> u8
+    ensures { EachIndex marks.now (λ i. slice_index marks.now i ≤ result) }
 {
-    let mut top = 0u8;
-    let mut i = 0;
-    while i < n {
-        if marks[i] > top {
-            top = marks[i];
-        }
-        i += 1;
-    }
-    top
+    marks.iter().copied().max().unwrap_or(0)
 }
 
-// The index of the first mark that is out of range, searched block by block and place by place;
-// the count of marks where none is.
+// The index of the first mark that is out of range, searched block by block and place by place, in the
+// loops and with the label that 01 names; the count of marks where none is.
 fn search_marks(s: Settings, marks: &[u8]) -> usize
     requires { T (permitted s) × (marks_needed s ≤ length marks.now) }
     ensures { result ≡ bad_mark s marks.now }
 {
     let blocks = places::blocks(s);
     let width = s.width() as usize;
-    'search: loop {
+    'search: {
         for block in 0..blocks {
             for place in 0..width {
                 let i = block * width + place;
@@ -64,107 +54,144 @@ fn search_marks(s: Settings, marks: &[u8]) -> usize
                 }
             }
         }
-        break 'search blocks * width;
+        blocks * width
     }
 }
 
-// The index of the first needed mark that is out of range; their count where none is. The search
-// is skipped where no mark is above 1.
-#[tactic(auto, using(crate::proofs::Finding::bad_mark_found))]
+// The index of the first needed mark that is out of range; their count where none is, as above. The
+// search is skipped where no mark is above 1.
+#[tactic(auto, using(crate::proofs::Finding::bad_mark_in))]
 pub fn bad_mark(s: Settings, marks: &[u8]) -> usize
     requires { T (permitted s) × (marks_needed s ≤ length marks.now) }
     ensures { result ≡ bad_mark s marks.now }
 {
     let needed = places::marks_needed(s);
-    if largest_mark(marks, needed) <= 1 {
-        return needed;
+    if largest_mark(&marks[..needed]) <= 1 {
+        needed
+    } else {
+        search_marks(s, marks)
     }
-    search_marks(s, marks)
 }
 
 // ---- one access
 
-// An operation on one X number: what it sees.
-fn touch_x(xs: &mut [u32], block: u16, op: Op) -> u32
-    requires { block < length xs.old }
-    ensures { OnRow op block xs.old result xs.new }
+// What a register has: an X number in 32 bits, or a mark in 8.
+pub trait Content: Copy {
+    // Its number.
+    ghost number: { Self → ℕ };
+
+    // The limit that a number stays below, to be written; and what then has that number.
+    ghost limit: { ℕ };
+
+    ghost having: { ℕ → Self };
+
+    // What a setup leaves.
+    ghost CLEAR: { Self };
+
+    const CLEAR: Self;
+
+    fn number(self) -> u32
+        ensures { result ≡ number self };
+
+    fn of(value: u32) -> Self
+        requires { value < limit }
+        ensures { result ≡ having value };
+
+    // What is written is what is read.
+    ghost reads_back: { (n : ℕ) → n < limit → number (having n) ≡ n };
+
+    // What a setup leaves is 0.
+    ghost is_zero: { number CLEAR ≡ 0 };
+}
+
+impl Content for u32 {
+    ghost number = { λ x. x };
+
+    ghost limit = { 2 ^ 32 };
+
+    ghost having = { λ n. n };
+
+    ghost reads_back = { λ n l. refl };
+
+    ghost CLEAR = { 0 }; // names no task
+
+    ghost is_zero = { refl };
+
+    const CLEAR: u32 = 0;
+
+    fn number(self) -> u32 {
+        self
+    }
+
+    fn of(value: u32) -> u32 {
+        value
+    }
+}
+
+impl Content for u8 {
+    ghost number = { λ mark. mark };
+
+    ghost limit = { 2 ^ 8 };
+
+    ghost having = { λ n. n };
+
+    ghost reads_back = { λ n l. refl };
+
+    ghost CLEAR = { 0 }; // not set
+
+    ghost is_zero = { refl };
+
+    const CLEAR: u8 = 0;
+
+    fn number(self) -> u32 {
+        u32::from(self)
+    }
+
+    fn of(value: u32) -> u8 {
+        value as u8
+    }
+}
+
+// An operation on one register: what it sees.
+fn operate<C: Content>(register: &mut C, op: Op) -> u32
+    requires { Below C.limit op }
+    ensures { OnRegister op (C.number register.old) result (C.number register.new) }
 {
     match op {
-        Op::Read => xs[block as usize],
+        Op::Read => register.number(),
         Op::Write(value) => {
-            xs[block as usize] = value;
+            *register = C::of(value);
             0
         }
     }
 }
 
-// A mark as the value of a read.
-fn wide(mark: u8) -> u32
-    ensures { result ≡ mark }
-{
-    mark as u32
-}
-
-// A value written as a mark.
-fn narrow(value: u32) -> u8
-    requires { value ≤ 1 }
-    ensures { result ≡ value }
-{
-    value as u8
-}
-
-// An operation on one mark: what it sees.
-fn touch_mark(marks: &mut [u8], index: usize, op: Op) -> u32
-    requires { (index < length marks.old) × Small op }
-    ensures { OnRow op index marks.old result marks.new }
-{
-    match op {
-        Op::Read => wide(marks[index]),
-        Op::Write(value) => {
-            marks[index] = narrow(value);
-            0
-        }
-    }
-}
-
-// Makes the one access, and returns the value read; 0 where nothing is read.
-pub fn touch(s: Settings, access: Access, xs: &mut [u32], marks: &mut [u8]) -> u32
+// Makes the one access, and returns the value read; 0 and no `None` where nothing is read, as the
+// definition `value` has it.
+pub fn touch(s: Settings, access: Option<Access>, xs: &mut [u32], marks: &mut [u8]) -> u32
     requires { T (permitted s) × RegisterNeeded s access × Writable s access × (blocks s ≤ length xs.old) × (marks_needed s ≤ length marks.old) }
     ensures { touched result (rows xs.new marks.new) ≡ touching s access (rows xs.old marks.old) }
 {
-    match access {
-        Access::NoAccess => 0,
-        Access::Touch { register, op } => match register {
-            Register::X { block } => touch_x(xs, block, op),
-            Register::Mark { block, place } => {
-                touch_mark(marks, places::mark_index(s, block, place), op)
-            }
-        },
+    let Some(Access { register, op }) = access else {
+        return 0;
+    };
+    match register {
+        Register::X { block } => operate(&mut xs[block as usize], op),
+        Register::Mark { block, place } => {
+            operate(&mut marks[places::mark_index(s, block, place)], op)
+        }
     }
 }
 
 // ---- setup
 
-// The first n X numbers become 0.
-pub fn clear_xs(xs: &mut [u32], n: usize)
-    requires { n ≤ length xs.old }
-    ensures { xs.new ≡ fill n 0 xs.old }
+// The first n registers of a row become clear: 0.
+#[tactic(auto, using(crate::proofs::Filling::fill_more))]
+pub fn clear<C: Content>(row: &mut [C], n: usize)
+    requires { n ≤ length row.old }
+    ensures { row.new ≡ fill n C.CLEAR row.old }
 {
-    let mut i = 0;
-    while i < n {
-        xs[i] = 0;
-        i += 1;
-    }
-}
-
-// The first n marks become 0.
-pub fn clear_marks(marks: &mut [u8], n: usize)
-    requires { n ≤ length marks.old }
-    ensures { marks.new ≡ fill n 0 marks.old }
-{
-    let mut i = 0;
-    while i < n {
-        marks[i] = 0;
-        i += 1;
+    for register in &mut row[..n] {
+        *register = C::CLEAR;
     }
 }

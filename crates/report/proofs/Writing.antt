@@ -1,7 +1,7 @@
 -- Laws of writing one piece of a line after another.
 use mathlib.Core.{Path.{◌≡◌, ap, ◌∙◌}, List.{List, ◌++◌}}
 use Prim.Native.Nat.{ℕ, ◌+◌, ◌≤◌, ◌<◌, ◌^◌}
-use native.Mathlib.{Nat.le_refl, Omega.arith}
+use native.Mathlib.Omega.{arith}
 use lib.ListN.{length, length-append}
 use Rattle.text.specs.{Decimal.decimal, Put.{put, Puts}}
 use Rattle.text.proofs.{Putting.{length_put, put_append, puts_determined}, Digits.digits_at_most}
@@ -14,11 +14,6 @@ five_digits n l = digits_at_most 4 n (omega arith)
 -- and a 32-bit number at most ten
 pub ten_digits : (n : ℕ) → n < 2 ^ 32 → length (decimal n) ≤ 10
 ten_digits n l = digits_at_most 9 n (omega arith)
-
--- a text as it stands
-pub whole : {room text after : List ℕ} {at to : ℕ} → Puts room at text to after
-    → Writes (length text) room at text to after
-whole {text = text} p = record { puts = p; short = le_refl (length text) }
 
 module _ {a : ℕ} {room x after : List ℕ} {at mid : ℕ} (w : Writes a room at x mid after) (b : ℕ)
     (fits : at + (a + b) ≤ length room) where

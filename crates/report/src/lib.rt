@@ -1,96 +1,55 @@
-// The lines of a listing, each written into lent room: the first, one of an event, the last, and the
-// one of a file that does not open.
+// The lines of a listing, each written on a page of lent room: the first, one of an event, the last,
+// and the one of a file that does not open.
 
 #![tactic(auto)]
 
-ghost use Rattle.std.specs.Prelude.{◌≡◌, ◌++◌, ◌+◌, ◌≤◌, length};
+ghost use Rattle.std.specs.Prelude.{◌≡◌, Some, ◌++◌, ◌+◌, ◌≤◌, length};
 ghost use Rattle.machine.specs.RefusalNumbers.{number_of};
-ghost use Rattle.text.specs.Decimal.{decimal, space, line_feed};
-ghost use Rattle.text.specs.Put.{Puts};
-ghost use Rattle.printed.specs.Listing.{kind_text, letter_text, register_text, block_of, place_of, shown_text, fields_text, told_text};
+ghost use Rattle.text.specs.Decimal.{decimal, line_feed};
+ghost use Rattle.printed.specs.Listing.{kind_text, letter_text, register_text, block_of, place_of, shown_text, fields_text, told_text, answer_text};
 ghost use Rattle.printed.specs.Listing.{grid_line, event_line, end_line, refused_line};
-ghost use Rattle.report.specs.Writes.{Writes};
+ghost use Rattle.report.specs.Pages.{Adds, Fits};
 
 use machine::{Answer, Event, Kind, Letter, Name, Refusal, Register, Settings, Shown, Told};
-use text::{copy, number};
 
-// ---- pieces of a line
-
-// A number in decimal, which has at most five digits.
-fn decimal(room: &mut [u8], at: usize, n: u16) -> usize
-    requires { at + 5 ≤ length room.old }
-    ensures { Writes 5 room.old at (decimal n) result room.new }
-{
-    number(room, at, n as u32)
+// A page: lent room, and the index past what is written in it. Its lines are methods, and no `impl
+// Display`: what `write!` gives may be an `Err` by its clauses, and a line that fits is always written.
+#[derive(Drop)]
+pub struct Page<'a> {
+    pub room: &'a mut [u8],
+    pub at: usize,
 }
 
-// The end of a line.
-fn line_feed(room: &mut [u8], at: usize) -> usize
-    requires { at + 1 ≤ length room.old }
-    ensures { Writes 1 room.old at line_feed result room.new }
-{
-    copy(room, at, b"\n")
-}
-
-// A text and a number after it.
-fn labelled(room: &mut [u8], at: usize, label: &[u8], n: u16) -> usize
-    requires { at + (length label.now + 5) ≤ length room.old }
-    ensures { Writes (length label.now + 5) room.old at (label.now ++ decimal n) result room.new }
-{
-    let next = copy(room, at, label);
-    decimal(room, next, n)
-}
-
-// A number and a space after it.
-fn spaced(room: &mut [u8], at: usize, n: u16) -> usize
-    requires { at + 6 ≤ length room.old }
-    ensures { Writes 6 room.old at (decimal n ++ space) result room.new }
-{
-    let next = decimal(room, at, n);
-    copy(room, next, b" ")
-}
+// ---- words
 
 // KIND: ask, turn or free.
-fn put_kind(room: &mut [u8], at: usize, kind: Kind) -> usize
-    requires { at + 5 ≤ length room.old }
-    ensures { Writes 5 room.old at (kind_text kind) result room.new }
+fn kind_text(kind: Kind) -> &'static [u8]
+    ensures { (result.now ≡ kind_text kind) × (length result.now ≤ 5) }
 {
     match kind {
-        Kind::Ask => copy(room, at, b"ask "),
-        Kind::Turn => copy(room, at, b"turn "),
-        Kind::Release => copy(room, at, b"free "),
+        Kind::Ask => b"ask ",
+        Kind::Turn => b"turn ",
+        Kind::Release => b"free ",
     }
 }
 
-// A value in decimal, which has at most ten digits.
-fn value(room: &mut [u8], at: usize, n: u32) -> usize
-    requires { at + 10 ≤ length room.old }
-    ensures { Writes 10 room.old at (decimal n) result room.new }
-{
-    number(room, at, n)
-}
-
-// ---- the five fields of an access
-
 // LETTER: how the register is touched.
-fn put_letter(room: &mut [u8], at: usize, letter: Letter) -> usize
-    requires { at + 2 ≤ length room.old }
-    ensures { Writes 2 room.old at (letter_text letter) result room.new }
+fn letter_text(letter: Letter) -> &'static [u8]
+    ensures { (result.now ≡ letter_text letter) × (length result.now ≤ 2) }
 {
     match letter {
-        Letter::R => copy(room, at, b"R "),
-        Letter::W => copy(room, at, b"W "),
+        Letter::R => b"R ",
+        Letter::W => b"W ",
     }
 }
 
 // REGISTER: X, or M for a mark.
-fn put_register(room: &mut [u8], at: usize, register: Register) -> usize
-    requires { at + 2 ≤ length room.old }
-    ensures { Writes 2 room.old at (register_text register) result room.new }
+fn register_text(register: Register) -> &'static [u8]
+    ensures { (result.now ≡ register_text register) × (length result.now ≤ 2) }
 {
     match register {
-        Register::X { .. } => copy(room, at, b"X "),
-        Register::Mark { .. } => copy(room, at, b"M "),
+        Register::X { .. } => b"X ",
+        Register::Mark { .. } => b"M ",
     }
 }
 
@@ -99,8 +58,7 @@ fn block_of(register: Register) -> u16
     ensures { result ≡ block_of register }
 {
     match register {
-        Register::X { block } => block,
-        Register::Mark { block, place: _ } => block,
+        Register::X { block } | Register::Mark { block, .. } => block,
     }
 }
 
@@ -110,123 +68,167 @@ fn place_of(register: Register) -> u16
 {
     match register {
         Register::X { .. } => 0,
-        Register::Mark { block: _, place } => place,
+        Register::Mark { place, .. } => place,
     }
 }
 
-// LETTER REGISTER BLOCK PLACE VALUE, or none where nothing is touched.
-fn put_shown(room: &mut [u8], at: usize, shown: Shown) -> usize
-    requires { at + 26 ≤ length room.old }
-    ensures { Writes 26 room.old at (shown_text shown) result room.new }
-{
-    match shown {
-        Shown::Nothing => copy(room, at, b"none"),
-        Shown::Touched {
-            letter,
-            register,
-            value: v,
-        } => {
-            let at = put_letter(room, at, letter);
-            let at = put_register(room, at, register);
-            let at = spaced(room, at, block_of(register));
-            let at = spaced(room, at, place_of(register));
-            value(room, at, v)
+impl Page<'_> {
+    // ---- pieces of a line
+
+    // A text.
+    fn text(&mut self, text: &[u8])
+        requires { Fits (length text.now) self.old }
+        ensures { Adds (length text.now) self.old text.now self.new }
+    {
+        self.at = text::copy(self.room, self.at, text);
+    }
+
+    // A number in decimal.
+    fn number(&mut self, n: u32)
+        requires { Fits (length (decimal n)) self.old }
+        ensures { Adds (length (decimal n)) self.old (decimal n) self.new }
+    {
+        self.at = text::number(self.room, self.at, n);
+    }
+
+    // A text and a number after it.
+    #[tactic(auto, using(crate::proofs::Writing::five_digits))]
+    fn labelled(&mut self, label: &[u8], n: u16)
+        requires { Fits (length label.now + 5) self.old }
+        ensures { Adds (length label.now + 5) self.old (label.now ++ decimal n) self.new }
+    {
+        self.text(label);
+        self.number(u32::from(n));
+    }
+
+    // The end of a line.
+    fn line_feed(&mut self)
+        requires { Fits 1 self.old }
+        ensures { Adds 1 self.old line_feed self.new }
+    {
+        self.text(b"\n");
+    }
+
+    // LETTER REGISTER BLOCK PLACE VALUE.
+    #[tactic(auto, using(crate::proofs::Writing::five_digits, crate::proofs::Writing::ten_digits))]
+    fn touched(&mut self, shown: Shown)
+        requires { Fits 26 self.old }
+        ensures { Adds 26 self.old (shown_text (Some shown)) self.new }
+    {
+        self.text(letter_text(shown.letter));
+        self.labelled(register_text(shown.register), block_of(shown.register));
+        self.labelled(b" ", place_of(shown.register));
+        self.text(b" ");
+        self.number(shown.value);
+    }
+
+    // The fields of an access, or none where nothing is touched.
+    fn shown(&mut self, shown: Option<Shown>)
+        requires { Fits 26 self.old }
+        ensures { Adds 26 self.old (shown_text shown) self.new }
+    {
+        match shown {
+            None => self.text(b"none"),
+            Some(shown) => self.touched(shown),
         }
     }
-}
 
-// A space and the fields, behind the answer to a turn or a release; nothing behind that to an ask.
-fn put_fields(room: &mut [u8], at: usize, kind: Kind, shown: Shown) -> usize
-    requires { at + 27 ≤ length room.old }
-    ensures { Writes 27 room.old at (fields_text kind shown) result room.new }
-{
-    match kind {
-        Kind::Ask => copy(room, at, b""),
-        Kind::Turn => {
-            let at = copy(room, at, b" ");
-            put_shown(room, at, shown)
-        }
-        Kind::Release => {
-            let at = copy(room, at, b" ");
-            put_shown(room, at, shown)
+    // A space and the fields, behind the answer to a turn or a release; nothing behind that to an ask.
+    fn fields(&mut self, kind: Kind, shown: Option<Shown>)
+        requires { Fits 27 self.old }
+        ensures { Adds 27 self.old (fields_text kind shown) self.new }
+    {
+        match kind {
+            Kind::Ask => {}
+            Kind::Turn | Kind::Release => {
+                self.text(b" ");
+                self.shown(shown);
+            }
         }
     }
-}
 
-// ---- the answer
-
-// A text, a name after it, and the fields.
-fn put_name(room: &mut [u8], at: usize, label: &[u8], name: Name, kind: Kind, shown: Shown) -> usize
-    requires { at + (length label.now + 32) ≤ length room.old }
-    ensures { Writes (length label.now + 32) room.old at (label.now ++ (decimal name.0 ++ fields_text kind shown)) result room.new }
-{
-    let at = labelled(room, at, label, name.0);
-    put_fields(room, at, kind, shown)
-}
-
-// ANSWER: seeks, holds NAME, freed NAME, each with its fields, or refused NUMBER.
-fn put_told(room: &mut [u8], at: usize, kind: Kind, told: Told, shown: Shown) -> usize
-    requires { at + 38 ≤ length room.old }
-    ensures { Writes 38 room.old at (told_text kind told shown) result room.new }
-{
-    match told {
-        Told::Done => copy(room, at, b"done"),
-        Told::Seeks => {
-            let at = copy(room, at, b"seeks");
-            put_fields(room, at, kind, shown)
-        }
-        Told::Holds(name) => put_name(room, at, b"holds ", name, kind, shown),
-        Told::Freed(name) => put_name(room, at, b"freed ", name, kind, shown),
-        Told::Refused(why) => labelled(room, at, b"refused ", why.number()),
+    // A text, a name after it, and the fields.
+    fn named(&mut self, label: &[u8], name: Name, kind: Kind, shown: Option<Shown>)
+        requires { Fits (length label.now + 32) self.old }
+        ensures { Adds (length label.now + 32) self.old (label.now ++ (decimal name.0 ++ fields_text kind shown)) self.new }
+    {
+        self.labelled(label, name.0);
+        self.fields(kind, shown);
     }
-}
 
-// ---- lines
+    // What an accepted call answers: seeks, holds NAME, freed NAME, each with its fields.
+    fn told(&mut self, kind: Kind, told: Told, shown: Option<Shown>)
+        requires { Fits 38 self.old }
+        ensures { Adds 38 self.old (told_text kind told shown) self.new }
+    {
+        match told {
+            Told::Done => self.text(b"done"),
+            Told::Seeks => {
+                self.text(b"seeks");
+                self.fields(kind, shown);
+            }
+            Told::Holds(name) => self.named(b"holds ", name, kind, shown),
+            Told::Freed(name) => self.named(b"freed ", name, kind, shown),
+        }
+    }
 
-// The line `grid MODE N K`, at the start of the room.
-pub fn put_grid(room: &mut [u8], s: Settings) -> usize
-    requires { 23 ≤ length room.old }
-    ensures { Writes 23 room.old 0 (grid_line s) result room.new }
-{
-    let at = labelled(room, 0, b"grid ", s.mode as u16);
-    let at = labelled(room, at, b" ", s.n);
-    let at = labelled(room, at, b" ", s.k as u16);
-    line_feed(room, at)
-}
+    // ANSWER: what an accepted call answers, or refused NUMBER.
+    fn answer(&mut self, kind: Kind, answer: Result<Answer, Refusal>)
+        requires { Fits 38 self.old }
+        ensures { Adds 38 self.old (answer_text kind answer) self.new }
+    {
+        match answer {
+            Ok(answer) => self.told(kind, answer.told, answer.shown),
+            Err(why) => self.labelled(b"refused ", why.number()),
+        }
+    }
 
-// The line `POSITION KIND ID ANSWER`, with the fields of the access behind the answer.
-pub fn put_event(room: &mut [u8], at: usize, position: u16, event: Event, answer: Answer) -> usize
-    requires { at + 56 ≤ length room.old }
-    ensures { Writes 56 room.old at (event_line position event answer) result room.new }
-{
-    let kind = event.kind;
-    let task = event.task;
-    let told = answer.told;
-    let shown = answer.shown;
-    let at = spaced(room, at, position);
-    let at = put_kind(room, at, kind);
-    let at = spaced(room, at, task.0);
-    let at = put_told(room, at, kind, told, shown);
-    line_feed(room, at)
-}
+    // ---- lines
 
-// The line `end HOLDERS PEAK MOST`.
-pub fn put_end(room: &mut [u8], at: usize, holders: u16, peak: u16, most: u32) -> usize
-    requires { at + 27 ≤ length room.old }
-    ensures { Writes 27 room.old at (end_line holders peak most) result room.new }
-{
-    let at = labelled(room, at, b"end ", holders);
-    let at = labelled(room, at, b" ", peak);
-    let at = copy(room, at, b" ");
-    let at = value(room, at, most);
-    line_feed(room, at)
-}
+    // The line `grid MODE N K`.
+    pub fn put_grid(&mut self, s: Settings)
+        requires { Fits 23 self.old }
+        ensures { Adds 23 self.old (grid_line s) self.new }
+    {
+        self.labelled(b"grid ", u16::from(s.mode));
+        self.labelled(b" ", s.n);
+        self.labelled(b" ", u16::from(s.k));
+        self.line_feed();
+    }
 
-// The line of a file that does not open.
-pub fn put_refused(room: &mut [u8], why: Refusal) -> usize
-    requires { 14 ≤ length room.old }
-    ensures { Puts room.old 0 (refused_line (number_of why)) result room.new }
-{
-    let at = labelled(room, 0, b"refused ", why.number());
-    line_feed(room, at)
+    // The line `POSITION KIND ID ANSWER`, with the fields of the access behind the answer.
+    #[tactic(auto, using(crate::proofs::Writing::five_digits))]
+    pub fn put_event(&mut self, position: u16, event: Event, answer: Result<Answer, Refusal>)
+        requires { Fits 56 self.old }
+        ensures { Adds 56 self.old (event_line position event answer) self.new }
+    {
+        self.number(u32::from(position));
+        self.text(b" ");
+        self.labelled(kind_text(event.kind), event.task.0);
+        self.text(b" ");
+        self.answer(event.kind, answer);
+        self.line_feed();
+    }
+
+    // The line `end HOLDERS PEAK MOST`.
+    #[tactic(auto, using(crate::proofs::Writing::ten_digits))]
+    pub fn put_end(&mut self, holders: u16, peak: u16, most: u32)
+        requires { Fits 27 self.old }
+        ensures { Adds 27 self.old (end_line holders peak most) self.new }
+    {
+        self.labelled(b"end ", holders);
+        self.labelled(b" ", peak);
+        self.text(b" ");
+        self.number(most);
+        self.line_feed();
+    }
+
+    // The line of a file that does not open.
+    pub fn put_refused(&mut self, why: Refusal)
+        requires { Fits 14 self.old }
+        ensures { Adds 14 self.old (refused_line (number_of why)) self.new }
+    {
+        self.labelled(b"refused ", why.number());
+        self.line_feed();
+    }
 }

@@ -1,30 +1,27 @@
 -- A pass over the records, one record after the other.
-use mathlib.Core.{Path.{◌≡◌, refl}, Bool.{Bool, true, false}, List.List}
-use Prim.Native.Nat.{ℕ, zero, suc, ◌≤◌}
-use native.Mathlib.Omega.{arith}
-use lib.{Dec.lit≤, ListN.get_or}
+use mathlib.Core.{Path.◌≡◌, List.List}
+use Prim.Native.Nat.{ℕ, ◌+◌}
+use native.Mathlib.Numerals.{add-one}
+use lib.ListN.{get_or}
 use Rattle.machine.specs.{Records.{idle, is_out, record_in_range}, declared.{Settings.Settings, Record.Record}}
+use Rattle.std.proofs.lemmas.Bool.Decides.{nat_tests}
 use Rattle.counting.specs.Counting.{tick, first_or, first_bad, count}
-use Rattle.rows.specs.Rows.{seen_to}
 
-tick_le : (b : Bool) (n i : ℕ) → n ≤ i → tick b n ≤ suc i
-tick_le true n i le = omega (arith, le)
-tick_le false n i le = omega (arith, le)
+-- of the records before i: the first out of range, i where none is, and how many are out
+abbrev pub bad_before : Settings → List Record → ℕ → ℕ
+bad_before s row i = first_bad (λ p. record_in_range s (get_or row p idle)) i
 
-pub count_le : (test : ℕ → Bool) (n : ℕ) → count test n ≤ n
-unfolding count
-count_le test zero = lit≤ tt
-count_le test (suc n) = tick_le (test n) (count test n) n (count_le test n)
+abbrev pub out_before : Settings → List Record → ℕ → ℕ
+out_before s row i = count (λ p. is_out (get_or row p idle).state) i
 
--- nothing is seen before the first record, and the record at i is seen after those before it
-pub seen_none : (s : Settings) (row : List Record) → record { bad = 0; out = 0 } ≡ seen_to s row 0
-unfolding count first_bad
-seen_none s row = refl
+-- the record at i is seen after those before it
+module _ (s : Settings) (row : List Record) (i : ℕ) where
+  pub bad_next : bad_before s row (i + 1) ≡ first_or (bad_before s row i) i (record_in_range s (get_or row i idle))
+  unfolding first_bad
+  bad_next = rw add-one
 
-pub seen_next : (s : Settings) (row : List Record) (i : ℕ)
-    → record {
-      bad = first_or (seen_to s row i).bad i (record_in_range s (get_or row i idle));
-      out = tick (is_out (get_or row i idle).state) (seen_to s row i).out;
-    } ≡ seen_to s row (suc i)
-unfolding count first_bad
-seen_next s row i = refl
+  pub out_next : out_before s row (i + 1) ≡ tick (is_out (get_or row i idle).state) (out_before s row i)
+  unfolding count
+  out_next = rw add-one
+
+pub ruleset passed = (bad_next, out_next, nat_tests)

@@ -1,6 +1,6 @@
 -- What an accepted verdict tells: of the settings, the rows and the task, of the one access, and of the next record.
 use mathlib.Core.{Path.{◌≡◌, sym, subst, ap}, Bool.false}
-use Prim.Native.Nat.{ℕ, ◌<◌}
+use Rattle.std.specs.Prelude.{Option, Ok, ℕ, ◌<◌}
 use lib.Dec.{T}
 use borrow.Author.Tests.{leb-false, not-false}
 use Rattle.machine.specs.{Settings.permitted, Records.{state_in_range, turns_in_range, record_in_range}}
@@ -10,7 +10,6 @@ use Rattle.demands.specs.promises.OneAccess.{RegisterNeeded, Writable}
 use Rattle.demands.proofs.{refusals.{Deciding.no_case, Passed.{Long, none_short_long}}, calls.OneAccess.access_needed}
 use Rattle.machine.proofs.refusals.Limits.{limits}
 use Rattle.machine.specs.declared.{Settings.Settings, View.View, Record.Record, Access.Access, Kind.Kind}
-use Rattle.machine.specs.declared.Verdict.{Verdict}
 use Rattle.registers.specs.Touching.{Accessed, touched, touching}
 use Rattle.rules.specs.Decision.{Sees}
 use Rattle.counting.proofs.Bools.{and_l}
@@ -25,7 +24,7 @@ pub record SeenPassed (s : Settings) (kind : Kind) (p : ℕ) (seen : View) (m : 
   pub state_good : T (state_in_range s seen.own.state)
 
 pub seen_passed : (s : Settings) (kind : Kind) (p : ℕ) (seen : View) (m : Memory) → Sees s p seen
-    → verdict s kind p seen m ≡ Verdict.Accepted → SeenPassed s kind p seen m
+    → verdict s kind p seen m ≡ Ok tt → SeenPassed s kind p seen m
 seen_passed s kind p seen m sees e =
     let (inside, (short, (records, (x_numbers, (mark_row, (unknown, (lived, (moment, last)))))))) =
     no_case (lent_cases s seen m (range_cases s seen m (task_cases s kind p seen))) e in
@@ -41,7 +40,7 @@ seen_passed s kind p seen m sees e =
     }
 
 module _ {s : Settings} {kind : Kind} {p : ℕ} {seen : View} {m : Memory} (ok : SeenPassed s kind p seen m)
-    (touch : Access)
+    (touch : Option Access)
     (is : touch ≡ access s kind p seen.own.state) where
   -- the access is of a register that is needed
   pub touch_needed : RegisterNeeded s touch

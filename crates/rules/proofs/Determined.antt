@@ -1,13 +1,15 @@
--- The contracts of `setup` and `decide` determine what is returned, whole and part by part, and the registers
+-- The contracts of `setup` and `decide` determine what is returned, and the registers
 -- afterwards, row by row: two outcomes that they admit are equal.
 use mathlib.Core.Path.{◌≡◌, sym, ap, ◌∙◌}
+use Rattle.std.specs.Prelude.{Result}
 use Rattle.demands.specs.{Memory.Memory, Calls.Outcome, Lent.leaves}
-use Rattle.machine.specs.declared.{Settings.Settings, View.View, Event.Event, Answer.Answer}
+use Rattle.demands.specs.Answers.{Reply}
+use Rattle.machine.specs.declared.{Settings.Settings, View.View, Event.Event, Refusal.Refusal}
 use Rattle.rules.specs.Decision.{Decision, decision, decided, preparation}
 use Rattle.rules.specs.declared.Decided.{Decided}
 
 -- `setup`: the answer, and the registers
-pub prepared_determined : (s : Settings) (seen : View) (before : Memory) (one other : Answer) (m m' : Memory)
+pub prepared_determined : (s : Settings) (seen : View) (before : Memory) (one other : Reply) (m m' : Memory)
     → leaves one m ≡ preparation s seen before → leaves other m' ≡ preparation s seen before
     → (one ≡ other) × (m ≡ m') × (m.xs ≡ m'.xs) × (m.marks ≡ m'.marks)
 prepared_determined s seen before one other m m' p q =
@@ -19,21 +21,16 @@ prepared_determined s seen before one other m m' p q =
       ap (λ (l : Memory). l.marks) left,
     )
 
--- `decide`: the answer and the task's record, and the registers
+-- `decide`: the answer and the task's record, or the refusal, and the registers
 pub decided_determined : (s : Settings) (seen : View) (event : Event) (before : Memory)
-    (one other : Decided) (m m' : Memory)
+    (one other : Result Decided Refusal) (m m' : Memory)
     → decided one m ≡ decision s event.kind event.task.0 seen before
     → decided other m' ≡ decision s event.kind event.task.0 seen before
-    → (one ≡ other) × (one.answer ≡ other.answer) × (one.own ≡ other.own)
-    × (m ≡ m') × (m.xs ≡ m'.xs) × (m.marks ≡ m'.marks)
+    → (one ≡ other) × (m ≡ m') × (m.xs ≡ m'.xs) × (m.marks ≡ m'.marks)
 decided_determined s seen event before one other m m' p q =
     let e : decided one m ≡ decided other m' = p ∙ sym q in
-    let answers = ap (λ (all : Decision). all.answer) e in
-    let records = ap (λ (all : Decision). all.own) e in
     let left : m ≡ m' = ap (λ (all : Decision). all.memory) e in (
-      λ i. record { answer = answers i; own = records i },
-      answers,
-      records,
+      ap (λ (all : Decision). all.result) e,
       left,
       ap (λ (l : Memory). l.xs) left,
       ap (λ (l : Memory). l.marks) left,

@@ -1,14 +1,15 @@
 -- What it says that the tests of what is lent pass, and the verdict by its parts.
 use mathlib.Core.{Path.{◌≡◌, refl, sym, ap, subst, ◌∙◌}, Bool.{Bool, true, false, cond}, List.{List, [], ◌∷◌}}
-use Prim.Native.Nat.{ℕ}
+use Rattle.std.specs.Prelude.{Ok, Err, ℕ}
 use lib.Dec.{T, ltb}
 use borrow.Author.Tests.{not-false}
 use Rattle.machine.specs.{Settings.permitted, Places.blocks}
 use Rattle.demands.specs.Memory.{Memory, marks_needed, bad_x, bad_mark}
-use Rattle.demands.specs.Refusals.{Case, when, first, outside_limits, row_short, row_busy, lent_cases, range_cases}
+use Rattle.demands.specs.Refusals.{Verdict, Case, when, first, outside_limits, row_short, row_busy, lent_cases}
+use Rattle.demands.specs.Refusals.{range_cases}
 use Rattle.demands.specs.Refusals.{task_cases, verdict, setup_verdict}
 use Rattle.demands.proofs.refusals.{Deciding.no_case, Passed.{Long, none_short_long}}
-use Rattle.machine.specs.declared.{Settings.Settings, View.View, Kind.Kind, Refusal.Refusal, Verdict.Verdict}
+use Rattle.machine.specs.declared.{Settings.Settings, View.View, Kind.Kind, Refusal.Refusal}
 
 -- the two tests of what is lent pass
 pub record LentPassed (s : Settings) (seen : View) (m : Memory) : Type 0 where
@@ -18,7 +19,7 @@ pub record LentPassed (s : Settings) (seen : View) (m : Memory) : Type 0 where
 
 -- where a call's tests pass, those of what is lent do, whatever follows them
 pub lent_passes : (s : Settings) (seen : View) (m : Memory) (rest : List Case)
-    → first (lent_cases s seen m rest) ≡ Verdict.Accepted → LentPassed s seen m
+    → first (lent_cases s seen m rest) ≡ Ok tt → LentPassed s seen m
 lent_passes s seen m rest e =
     let (inside, (short, later)) = no_case (lent_cases s seen m rest) e in
     record {
@@ -31,19 +32,19 @@ lent_passes s seen m rest e =
 
 -- a first verdict, and if it passed, a second
 abbrev pub then : Verdict → Verdict → Verdict
-then Verdict.Accepted later = later
-then (Verdict.Refused why) later = Verdict.Refused why
+then (Ok accepted) later = later
+then (Err why) later = Err why
 
 two_then : (a b : Bool) (x y : Refusal) (later : Verdict)
-    → cond a (Verdict.Refused x) (cond b (Verdict.Refused y) later)
-    ≡ then (cond a (Verdict.Refused x) (cond b (Verdict.Refused y) Verdict.Accepted)) later
+    → cond a (Err x) (cond b (Err y) later)
+    ≡ then (cond a (Err x) (cond b (Err y) (Ok tt))) later
 two_then true b x y later = refl
 two_then false true x y later = refl
 two_then false false x y later = refl
 
 three_then : (a b c : Bool) (x y z : Refusal) (later : Verdict)
-    → cond a (Verdict.Refused x) (cond b (Verdict.Refused y) (cond c (Verdict.Refused z) later))
-    ≡ then (cond a (Verdict.Refused x) (cond b (Verdict.Refused y) (cond c (Verdict.Refused z) Verdict.Accepted))) later
+    → cond a (Err x) (cond b (Err y) (cond c (Err z) later))
+    ≡ then (cond a (Err x) (cond b (Err y) (cond c (Err z) (Ok tt)))) later
 three_then true b c x y z later = refl
 three_then false b c x y z later = two_then b c y z later
 

@@ -1,12 +1,12 @@
 -- What a call decides from what it sees of the records and from the rows of registers: the definitions of the machine,
 -- without the row of records. An outcome holds one memory, in which the rows of registers are put together (`rows`).
 use mathlib.Core.{Path.◌≡◌, Bool.false}
-use Rattle.std.specs.Prelude.{ℕ, ◌<◌, T, ltb}
+use Rattle.std.specs.Prelude.{Result, Ok, Err, ℕ, ◌<◌, T, ltb}
 use Rattle.machine.specs.{Records.record_in_range, Turn.{access, turns_after}}
-use Rattle.demands.specs.{Memory.Memory, Touching.store, Refusals.{setup_verdict, verdict}}
+use Rattle.demands.specs.{Memory.Memory, Touching.store, Refusals.{Verdict, setup_verdict, verdict}}
 use Rattle.demands.specs.{Calls.{Outcome, refuse_or, next_state, shown_of, told_of, cleared}, Answers.plain}
-use Rattle.machine.specs.declared.{Settings.Settings, Record.Record, View.View, Kind.Kind}
-use Rattle.machine.specs.declared.{Verdict.Verdict, Told.Told, Answer.Answer}
+use Rattle.machine.specs.declared.{Settings.Settings, View.View, Kind.Kind}
+use Rattle.machine.specs.declared.{Refusal.Refusal, Told.Told}
 use Rattle.rules.specs.declared.Decided.{Decided}
 
 -- what a view of a row of records says of its task's own: in range where nothing is bad
@@ -15,36 +15,33 @@ Sees s p seen = ltb seen.bad s.n ≡ false → p < s.n → T (record_in_range s 
 
 -- ---- ask, turn and release
 
--- the answer, the task's record to put back, and the registers afterwards
+-- the answer with the task's record to put back, or the refusal; and the registers afterwards
 pub record Decision : Type 0 where
-  pub answer : Answer
-  pub own : Record
+  pub result : Result Decided Refusal
   pub memory : Memory
 
 abbrev pub decision_by : Verdict → Settings → Kind → ℕ → View → Memory → Decision
-decision_by Verdict.Accepted s kind p seen m = record {
-  answer = record {
-    told = told_of s kind seen.own.state (next_state s kind p seen.own.state m);
-    shown = shown_of s kind p seen.own.state m;
-  };
-  own = record {
-    state = next_state s kind p seen.own.state m;
-    turns = turns_after kind seen.own.state seen.own.turns;
-  };
+decision_by (Ok accepted) s kind p seen m = record {
+  result = Ok (record {
+    answer = record {
+      told = told_of s kind seen.own.state (next_state s kind p seen.own.state m);
+      shown = shown_of s kind p seen.own.state m;
+    };
+    own = record {
+      state = next_state s kind p seen.own.state m;
+      turns = turns_after kind seen.own.state seen.own.turns;
+    };
+  });
   memory = store s (access s kind p seen.own.state) m;
 }
-decision_by (Verdict.Refused why) s kind p seen m = record {
-  answer = plain (Told.Refused why);
-  own = seen.own;
-  memory = m;
-}
+decision_by (Err why) s kind p seen m = record { result = Err why; memory = m }
 
 abbrev pub decision : Settings → Kind → ℕ → View → Memory → Decision
 decision s kind p seen m = decision_by (verdict s kind p seen m) s kind p seen m
 
 -- what the code returns and leaves, as a decision
-abbrev pub decided : Decided → Memory → Decision
-decided result m = record { answer = result.answer; own = result.own; memory = m }
+abbrev pub decided : Result Decided Refusal → Memory → Decision
+decided result m = record { result = result; memory = m }
 
 -- ---- setup
 

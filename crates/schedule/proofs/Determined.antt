@@ -2,8 +2,8 @@
 -- equal.
 use mathlib.Core.{Path.{◌≡◌, sym, ap, ◌∙◌}, List.List}
 use Prim.Native.Nat.{ℕ}
-use Rattle.file.specs.File.{Written, writing, written_of}
-use Rattle.machine.specs.declared.{Settings.Settings, Reading.Reading, Writing.Writing}
+use Rattle.file.specs.File.{Reading, Writing, Written, writing, written_of}
+use Rattle.machine.specs.declared.Settings.{Settings}
 use Rattle.schedule.specs.{Asked.Asked, declared.Reader.Reader}
 
 -- `Reader::next`: the answer and the reader as it is left

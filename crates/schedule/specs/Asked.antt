@@ -2,8 +2,7 @@
 use mathlib.Core.{Path.◌≡◌, List.List}
 use Rattle.std.specs.Prelude.{ℕ}
 use Rattle.std.specs.Borrow.{Bor}
-use Rattle.file.specs.File.{reading}
-use Rattle.machine.specs.declared.Reading.{Reading}
+use Rattle.file.specs.File.{Reading, reading}
 use Rattle.schedule.specs.declared.Reader.{Reader}
 
 -- a reader of a lent file, at a position

@@ -5,78 +5,55 @@
 
 ghost use Rattle.std.specs.Prelude.{◌≡◌, ◌≤◌, length};
 ghost use Rattle.counting.specs.Counting.{any_below};
-ghost use Rattle.file.specs.File.{file_length, code_bad, opening, kind_of, reading, writing, written_of};
-ghost use Rattle.schedule.specs.Next.{next_of, stays};
+ghost use Rattle.file.specs.File.{file_length, code_bad, opening, reading, writing, written_of};
+ghost use Rattle.schedule.specs.Next.{next_of};
 ghost use Rattle.schedule.specs.Asked.{reader_at, Asked};
 
 use headers::{MOST_EVENTS, header, settings, word};
-use machine::{Event, Kind, Opening, Reading, Refusal, Settings, TaskId, Verdict, Writing};
+use machine::{Event, Kind, Opened, Refusal, Settings, TaskId};
 use writer::{bad_number, put_events, put_header};
 
 // What a reader answers, with its position afterwards.
 #[derive(Clone, Copy)]
 pub struct Next {
-    pub answer: Reading,
+    pub answer: Result<Event, Refusal>,
     pub at: usize,
 }
 
 // Whether one of the first n events has a code above 2.
-#[tactic(auto, using(crate::proofs::Codes::code_known))]
 fn bad_code(file: &[u8], n: usize) -> bool
     requires { file_length n ≤ length file.now }
     ensures { result ≡ any_below (code_bad file.now) n }
 {
-    let mut i = 0;
-    while i < n {
-        if file[11 + 3 * i] > 2 {
-            return true;
-        }
-        i += 1;
-    }
-    false
+    (0..n).any(|i| file[11 + 3 * i] > 2)
 }
 
 // Opens a schedule file: its settings and its count of events, or why it is refused.
-pub fn open(file: &[u8]) -> Opening
+pub fn open(file: &[u8]) -> Result<Opened, Refusal>
     ensures { result ≡ opening file.now }
 {
-    let verdict = header(file);
-    match verdict {
-        Verdict::Refused(why) => Opening::Refused(why),
-        Verdict::Accepted => {
-            let count = word(file, 9);
-            if bad_code(file, count as usize) {
-                return Opening::Refused(Refusal::EventCode);
-            }
-            Opening::Opened {
-                settings: settings(file),
-                count: count,
-            }
-        }
+    header(file)?;
+    let count = word(file, 9);
+    if bad_code(file, usize::from(count)) {
+        return Err(Refusal::EventCode);
     }
+    Ok(Opened {
+        settings: settings(file),
+        count,
+    })
 }
 
-// What an event of that code is: 0 ask, 1 turn, any other release.
-fn kind(code: u8) -> Kind
-    ensures { result ≡ kind_of code }
+// The event at a position of the file, or why there is none.
+fn event(file: &[u8], at: usize) -> Result<Event, Refusal>
+    ensures { result ≡ (reading file.now at).answer }
 {
-    if code == 0 {
-        return Kind::Ask;
+    header(file)?;
+    if at >= usize::from(word(file, 9)) {
+        return Err(Refusal::NoEvent);
     }
-    if code == 1 {
-        return Kind::Turn;
-    }
-    Kind::Release
-}
-
-// A refusal leaves the position as it is.
-fn refused(why: Refusal, at: usize) -> Next
-    ensures { result ≡ stays why at }
-{
-    Next {
-        answer: Reading::Refused(why),
-        at: at,
-    }
+    let kind = Kind::try_from(file[11 + 3 * at])?;
+    let task = TaskId(word(file, 11 + 3 * at + 1));
+    Ok(Event { kind, task })
 }
 
 // The event at a position of the file, and the position after it: one more where an event is given,
@@ -84,28 +61,9 @@ fn refused(why: Refusal, at: usize) -> Next
 pub fn event_at(file: &[u8], at: usize) -> Next
     ensures { result ≡ next_of (reading file.now at) }
 {
-    let verdict = header(file);
-    match verdict {
-        Verdict::Refused(why) => refused(why, at),
-        Verdict::Accepted => {
-            let count = word(file, 9) as usize;
-            if at >= count {
-                return refused(Refusal::NoEvent, at);
-            }
-            let code = file[11 + 3 * at];
-            if code > 2 {
-                return refused(Refusal::EventCode, at);
-            }
-            let task = TaskId(word(file, 11 + 3 * at + 1));
-            Next {
-                answer: Reading::Given(Event {
-                    kind: kind(code),
-                    task: task,
-                }),
-                at: at + 1,
-            }
-        }
-    }
+    let answer = event(file, at);
+    let moved = if answer.is_ok() { at + 1 } else { at };
+    Next { answer, at: moved }
 }
 
 // A reader stays with the lent file and keeps the position of its next event.
@@ -125,7 +83,7 @@ impl<'a> Reader<'a> {
 
     // The next event, or why there is none. An event given moves the reader on by one, a refusal
     // does not.
-    pub fn next(&mut self) -> Reading
+    pub fn next(&mut self) -> Result<Event, Refusal>
         ensures { Asked self.old result self.new }
     {
         let next = event_at(self.file, self.at);
@@ -135,7 +93,7 @@ impl<'a> Reader<'a> {
 }
 
 // Asks a reader at a position of the file for its next event: the answer, and where the reader then
-// stands.
+// stands. The same as `event_at`, by way of a reader: docs/CONTRACTS.md names both.
 pub fn read(file: &[u8], at: usize) -> Next
     ensures answered { result ≡ next_of (reading file.now at) }
 {
@@ -148,26 +106,26 @@ pub fn read(file: &[u8], at: usize) -> Next
 }
 
 // Writes the schedule of those settings and event numbers from the start of the room, and answers
-// how many bytes; or why it is refused, with the room as it was.
-pub fn write(s: Settings, events: &[u32], room: &mut [u8]) -> Writing
+// how many bytes; or why it is refused, with the room as it was. Numbers, and no `Event`s, since a code
+// above 2 is refused.
+pub fn write(s: Settings, events: &[u32], room: &mut [u8]) -> Result<usize, Refusal>
     ensures { written_of result room.new ≡ writing s events.now room.old }
 {
     if !places::permitted(s) {
-        return Writing::Refused(Refusal::Limits);
+        return Err(Refusal::Limits);
     }
     let count = events.len();
-    let bad = bad_number(events);
     if count > MOST_EVENTS {
-        return Writing::Refused(Refusal::TooManyEvents);
+        return Err(Refusal::TooManyEvents);
     }
-    if bad {
-        return Writing::Refused(Refusal::EventCode);
+    if bad_number(events) {
+        return Err(Refusal::EventCode);
     }
     let length = 11 + 3 * count;
     if room.len() < length {
-        return Writing::Refused(Refusal::ShortRoom);
+        return Err(Refusal::ShortRoom);
     }
     put_header(room, s, count as u16);
     put_events(room, events);
-    Writing::Wrote(length)
+    Ok(length)
 }

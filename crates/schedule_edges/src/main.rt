@@ -5,277 +5,188 @@
 
 ghost use Rattle.std.specs.Prelude.{◌<◌};
 
-use machine::{Event, Kind, Opening, Reading, Refusal, Settings, Writing};
+use machine::{Event, Opened, Refusal, Settings};
+use std::fmt::{self, Write};
 
 // The number of standard output.
 const STDOUT_FILENO: i32 = 1;
 
-// The number of a refusal.
-fn number(why: Refusal) -> u64 {
-    why.number() as u64
-}
+// Standard output by `io`, which asks no C function why a write failed. `memories` and `schedule_edges`
+// have it each: a crate for it would be longer.
+#[derive(Drop)]
+struct Output;
 
-// The code of an event.
-fn code(event: Event) -> u64 {
-    let kind = event.kind;
-    match kind {
-        Kind::Ask => 0,
-        Kind::Turn => 1,
-        Kind::Release => 2,
+impl Write for Output {
+    fn write_str(&mut self, text: &str) -> fmt::Result {
+        if io::write_all(STDOUT_FILENO, text.as_bytes()) {
+            Ok(())
+        } else {
+            Err(fmt::Error)
+        }
     }
 }
 
-// The number of an event: code times 65,536 plus identifier.
+// The number of an answer: its refusal's, or 0.
+fn number<T: Drop>(answer: Result<T, Refusal>) -> u16 {
+    answer.err().map_or(0, |why| why.number())
+}
+
+// The number of an event, as 01 writes it: its kind's code, 0 to 2, times 65,536 plus its identifier.
 fn numbered(event: Event) -> u32 {
-    let kind = event.kind;
-    let task = event.task.0 as u32;
-    match kind {
-        Kind::Ask => task,
-        Kind::Turn => 65536 + task,
-        Kind::Release => 131072 + task,
-    }
-}
-
-fn wide(byte: u8) -> u64 {
-    byte as u64
-}
-
-fn say(n: u64) {
-    io::write_all(STDOUT_FILENO, b" ");
-    io::print_decimal(STDOUT_FILENO, n);
-}
-
-fn end() {
-    io::write_all(STDOUT_FILENO, b"\n");
+    65536 * (event.kind as u32) + u32::from(event.task.0)
 }
 
 // open ANSWER, with mode, N, k, version and count where the file is accepted.
-fn open(file: &[u8]) {
-    io::write_all(STDOUT_FILENO, b"open");
-    let opening = schedule::open(file);
-    match opening {
-        Opening::Opened { settings, count } => {
-            say(0);
-            say(settings.mode as u64);
-            say(settings.n as u64);
-            say(settings.k as u64);
-            say(settings.version as u64);
-            say(count as u64);
-        }
-        Opening::Refused(why) => say(number(why)),
+fn open(out: &mut impl Write, file: &[u8]) -> fmt::Result {
+    match schedule::open(file) {
+        Ok(Opened { settings, count }) => writeln!(
+            out,
+            "open 0 {} {} {} {} {count}",
+            settings.mode, settings.n, settings.k, settings.version
+        ),
+        Err(why) => writeln!(out, "open {}", why.number()),
     }
-    end();
 }
 
 // read POSITION ANSWER, with code and identifier where an event is given, and the position after it.
-fn read(file: &[u8], at: usize) {
-    io::write_all(STDOUT_FILENO, b"read");
-    say(at as u64);
+fn read(out: &mut impl Write, file: &[u8], at: usize) -> fmt::Result {
     let next = schedule::read(file, at);
-    let answer = next.answer;
-    match answer {
-        Reading::Given(event) => {
-            say(0);
-            say(code(event));
-            say(event.task.0 as u64);
-        }
-        Reading::Refused(why) => say(number(why)),
+    write!(out, "read {at} ")?;
+    match next.answer {
+        Ok(event) => write!(out, "0 {} {}", event.kind as u32, event.task.0)?,
+        Err(why) => write!(out, "{}", why.number())?,
     }
-    say(next.at as u64);
-    end();
+    writeln!(out, " {}", next.at)
 }
 
-// The number that opening answers.
-fn opened(file: &[u8]) -> u64 {
-    let opening = schedule::open(file);
-    match opening {
-        Opening::Opened {
-            settings: _,
-            count: _,
-        } => 0,
-        Opening::Refused(why) => number(why),
-    }
+// The number that a reader at a position answers, as it is printed.
+fn given(file: &[u8], at: usize) -> u16 {
+    number(schedule::read(file, at).answer)
 }
 
-// The number that a reader at a position answers.
-fn given(file: &[u8], at: usize) -> u64 {
-    let next = schedule::read(file, at);
-    let answer = next.answer;
-    match answer {
-        Reading::Given(_) => 0,
-        Reading::Refused(why) => number(why),
-    }
-}
-
-// One hexadecimal digit for each answer to a file of three events with one byte changed: opening's,
-// and a reader's at 0, 1, 2 and 3.
-fn answers(mut file: [u8; 20], place: usize, byte: u8) -> u64
+// The numbers of the answers to a file of three events with one byte changed: opening's, and a
+// reader's at 0, 1, 2 and 3.
+fn answers(mut file: [u8; 20], place: usize, byte: u8) -> [u16; 5]
     requires { place < 20 }
 {
     file[place] = byte;
-    let first = opened(&file) << 16 | given(&file, 0) << 12;
-    let last = given(&file, 1) << 8 | given(&file, 2) << 4 | given(&file, 3);
-    first | last
+    let file = &file[..];
+    [
+        number(schedule::open(file)),
+        given(file, 0),
+        given(file, 1),
+        given(file, 2),
+        given(file, 3),
+    ]
 }
 
-// byte PLACE FROM TO ANSWERS
-fn run(place: usize, from: usize, to: usize, answers: u64) {
-    io::write_all(STDOUT_FILENO, b"byte");
-    say(place as u64);
-    say(from as u64);
-    say(to as u64);
-    io::write_all(STDOUT_FILENO, b" ");
-    io::print_hex(STDOUT_FILENO, answers, 5);
-    end();
+// byte PLACE FROM TO ANSWERS, with one hexadecimal digit for each answer
+fn run(out: &mut impl Write, place: usize, from: u8, to: u8, answers: [u16; 5]) -> fmt::Result {
+    write!(out, "byte {place} {from} {to} ")?;
+    for answer in answers {
+        write!(out, "{answer:x}")?;
+    }
+    writeln!(out)
 }
 
 // A place of the file changed to every byte, in runs of equal answers.
-fn changed(file: [u8; 20], place: usize)
+fn changed(out: &mut impl Write, file: [u8; 20], place: usize) -> fmt::Result
     requires { place < 20 }
 {
-    let mut from: usize = 0;
+    let mut from = 0u8;
     let mut was = answers(file, place, 0);
-    let mut byte: usize = 1;
-    while byte < 256 {
-        let now = answers(file, place, byte as u8);
+    for byte in 1..=255u8 {
+        let now = answers(file, place, byte);
         if now != was {
-            run(place, from, byte - 1, was);
+            run(out, place, from, byte - 1, was)?;
             from = byte;
             was = now;
         }
-        byte += 1;
     }
-    run(place, from, 255, was);
+    run(out, place, from, 255, was)
 }
 
 // The file cut at every length.
-fn cuts(file: &[u8]) {
-    let mut cut: usize = 0;
-    while cut <= file.len() {
-        io::write_all(STDOUT_FILENO, b"cut");
-        say(cut as u64);
-        say(opened(&file[..cut]));
-        end();
-        cut += 1;
+fn cuts(out: &mut impl Write, file: &[u8]) -> fmt::Result {
+    for cut in 0..=file.len() {
+        writeln!(out, "cut {cut} {}", number(schedule::open(&file[..cut])))?;
     }
+    Ok(())
 }
 
 // write ANSWER, with how many bytes where it is accepted, and the room afterwards.
-fn write(s: Settings, events: &[u32], room: &mut [u8]) {
-    io::write_all(STDOUT_FILENO, b"write");
-    let writing = schedule::write(s, events, &mut room[..]);
-    match writing {
-        Writing::Wrote(count) => {
-            say(0);
-            say(count as u64);
-        }
-        Writing::Refused(why) => say(number(why)),
+fn write(out: &mut impl Write, s: Settings, events: &[u32], room: &mut [u8]) -> fmt::Result {
+    match schedule::write(s, events, room) {
+        Ok(count) => write!(out, "write 0 {count} ")?,
+        Err(why) => write!(out, "write {} ", why.number())?,
     }
-    io::write_all(STDOUT_FILENO, b" ");
-    let mut i: usize = 0;
-    while i < room.len() {
-        io::print_hex(STDOUT_FILENO, wide(room[i]), 2);
-        i += 1;
+    for byte in room.iter() {
+        write!(out, "{byte:02x}")?;
     }
-    end();
+    writeln!(out)
 }
 
 // The number of the event at a position of a file, 0 where none is given.
 fn event(file: &[u8], at: usize) -> u32 {
-    let next = schedule::read(file, at);
-    let answer = next.answer;
-    match answer {
-        Reading::Given(event) => numbered(event),
-        Reading::Refused(_) => 0,
-    }
+    schedule::read(file, at).answer.map_or(0, numbered)
 }
 
 // A file of three events with another version: opening, and what it gives read and written back.
-fn version(mut file: [u8; 20], low: u8, high: u8) {
+fn version(out: &mut impl Write, mut file: [u8; 20], version: u16) -> fmt::Result {
+    let [low, high] = version.to_le_bytes();
     file[3] = low;
     file[4] = high;
-    open(&file);
-    let opening = schedule::open(&file);
-    match opening {
-        Opening::Opened { settings, count: _ } => {
-            let events = [event(&file, 0), event(&file, 1), event(&file, 2)];
-            let mut room = [170u8; 22];
-            write(settings, &events, &mut room);
-        }
-        Opening::Refused(_) => {}
+    open(out, &file)?;
+    if let Ok(Opened { settings, .. }) = schedule::open(&file) {
+        let events = [event(&file, 0), event(&file, 1), event(&file, 2)];
+        write(out, settings, &events, &mut [170; 22])?;
     }
-}
-
-// Versions 0 to 3, and two whose high byte is not 0.
-fn versions(file: [u8; 20]) {
-    version(file, 0, 0);
-    version(file, 1, 0);
-    version(file, 2, 0);
-    version(file, 3, 0);
-    version(file, 1, 1);
-    version(file, 0, 2);
-}
-
-// The writer with settings of a version.
-fn version_written(version: u16) {
-    let events = [0, 65537, 196607];
-    let mut room = [170u8; 22];
-    let s = Settings {
-        mode: 1,
-        n: 2,
-        k: 2,
-        version: version,
-    };
-    write(s, &events, &mut room);
+    Ok(())
 }
 
 // The largest file, one event more, and one byte more or less than its length.
-fn largest() {
+fn largest(out: &mut impl Write) -> fmt::Result {
     let mut file = [0u8; 49166];
-    open(&file[..0]);
-    file[0] = b'G';
-    file[1] = b'R';
-    file[2] = b'S';
-    file[3] = 1;
-    file[5] = 1;
-    file[7] = 1;
-    file[8] = 16;
-    file[10] = 64;
-    open(&file[..49163]);
-    open(&file[..49162]);
-    open(&file[..49164]);
-    read(&file[..49163], 16383);
-    read(&file[..49163], 16384);
-    read(&file[..49163], 18446744073709551615);
+    open(out, &file[..0])?;
+    file[..11].copy_from_slice(&[b'G', b'R', b'S', 1, 0, 1, 0, 1, 16, 0, 64]);
+    open(out, &file[..49163])?;
+    open(out, &file[..49162])?;
+    open(out, &file[..49164])?;
+    read(out, &file[..49163], 16383)?;
+    read(out, &file[..49163], 16384)?;
+    read(out, &file[..49163], usize::MAX)?;
     file[49160] = 3;
-    open(&file[..49163]);
-    read(&file[..49163], 16382);
-    read(&file[..49163], 16383);
-    read(&file[..49163], 16384);
+    open(out, &file[..49163])?;
+    read(out, &file[..49163], 16382)?;
+    read(out, &file[..49163], 16383)?;
+    read(out, &file[..49163], 16384)?;
     file[9] = 1;
-    open(&file[..49166]);
-    open(&file[..11]);
+    open(out, &file[..49166])?;
+    open(out, &file[..11])
 }
 
-fn small() {
+// A file of three events, read, cut, changed at every place, and with versions 0 to 3 and two whose
+// high byte is not 0.
+fn small(out: &mut impl Write) -> fmt::Result {
     let file = [
         71, 82, 83, 1, 0, 1, 2, 0, 2, 3, 0, 0, 0, 0, 1, 1, 0, 2, 255, 255,
     ];
-    open(&file);
-    read(&file, 0);
-    read(&file, 1);
-    read(&file, 2);
-    read(&file, 3);
-    cuts(&file);
-    let mut place: usize = 0;
-    while place < 20 {
-        changed(file, place);
-        place += 1;
+    open(out, &file)?;
+    for at in 0..4 {
+        read(out, &file, at)?;
     }
-    versions(file);
+    cuts(out, &file)?;
+    for place in 0..20 {
+        changed(out, file, place)?;
+    }
+    for number in [0, 1, 2, 3, 257, 512] {
+        version(out, file, number)?;
+    }
+    Ok(())
 }
 
-fn writes() {
+// The writer: what is refused, the first reason first, and with settings of each version.
+fn writes(out: &mut impl Write) -> fmt::Result {
     let good = Settings {
         mode: 1,
         n: 2,
@@ -284,30 +195,32 @@ fn writes() {
     };
     let bad = Settings {
         mode: 0,
-        n: 2,
         k: 3,
-        version: 1,
+        ..good
     };
-    let mut short = [170u8; 19];
-    let mut room = [170u8; 22];
     let events = [0, 65537, 196607];
     let coded = [0, 196608, 0];
-    let many = [0u32; 16385];
-    write(bad, &many, &mut short);
-    write(good, &many, &mut short);
-    write(good, &coded, &mut short);
-    write(good, &events, &mut short);
-    write(good, &coded, &mut room);
-    write(good, &events, &mut room);
-    version_written(0);
-    version_written(1);
-    version_written(2);
-    version_written(3);
-    version_written(257);
+    let many = [0; 16385];
+    write(out, bad, &many, &mut [170; 19])?;
+    write(out, good, &many, &mut [170; 19])?;
+    write(out, good, &coded, &mut [170; 19])?;
+    write(out, good, &events, &mut [170; 19])?;
+    write(out, good, &coded, &mut [170; 22])?;
+    write(out, good, &events, &mut [170; 22])?;
+    for version in [0, 1, 2, 3, 257] {
+        let s = Settings { version, ..good };
+        write(out, s, &events, &mut [170; 22])?;
+    }
+    Ok(())
 }
 
+fn edges(out: &mut impl Write) -> fmt::Result {
+    largest(out)?;
+    small(out)?;
+    writes(out)
+}
+
+// A write that fails ends what is printed.
 fn main() {
-    largest();
-    small();
-    writes();
+    let _ = edges(&mut Output);
 }

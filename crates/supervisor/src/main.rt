@@ -1,31 +1,36 @@
 // A supervisor of four channels on a board of k = 2. It serves interrupts in the order in which they
 // come, here from a list, keeps for each channel the row of the table that it holds, and tells each
-// call on a line. Every step keeps `Kept`; that no two channels have one row follows from it and is in
-// the contract of `run`, and that an interrupt changes no other channel's row in that of `interrupt`.
+// call on a line. Every desk is `Kept`; that no two channels have one row follows from it and is in the
+// contract of `run`, and that an interrupt changes no other channel's row in that of `interrupt`.
 
 #![tactic(auto)]
 
-ghost use Rattle.std.specs.Prelude.{◌≡◌, ◌+◌, ◌-◌, ◌≤◌, ◌<◌};
-ghost use Rattle.demands.specs.promises.Notes.{noted};
-ghost use Rattle.supervisor.specs.Desk.{board, Kept, RowsApart, OthersKeep, Served};
+ghost use Rattle.std.specs.Prelude.{◌≡◌, ◌-◌, ◌<◌, ◌≤◌, ◌↔◌, IfSome, IsSome};
+ghost use Rattle.demands.specs.{Answers.told_in, Lent.lent, promises.Notes.noted};
+ghost use Rattle.supervisor.specs.Kept.{board, note_of, Kept};
 
-use calls::{idle_records, setup_of, step_of};
-use machine::{Event, Kind, Name, Record, Refusal, Settings, TaskId, Told};
+use machine::{Answer, Event, Kind, Name, Record, Refusal, Settings, TaskId, Told};
 
 // The number of standard output.
 const STDOUT_FILENO: i32 = 1;
 
-// What the supervisor keeps, by value: the memory that it lends to the calls, for each channel the row
-// that it has (its number and one more, 0 for none), the table, a total for each name, and what was
-// told last.
+// One of the four channels.
 #[derive(Clone, Copy)]
+struct Channel {
+    id: u16,
+    ghost known: { id < 4 },
+}
+
+// What the supervisor keeps: the memory that it lends to the calls, for each channel the row that it
+// has, by its name, and the table, a total for each name.
+#[derive(Drop)]
 struct Desk {
     records: [Record; 256],
     xs: [u32; 1],
     marks: [u8; 4],
-    rows: [u32; 4],
+    rows: [Option<Name>; 4],
     totals: [u32; 3],
-    told: Told,
+    ghost kept: { ∥ Kept (lent records xs marks) rows totals ∥₁ },
 }
 
 // Long-lived, four channels, two of them out at once, names by diagonal.
@@ -40,13 +45,13 @@ fn board() -> Settings
     }
 }
 
-// ---- what is told
+// ---- what is told: by `io`, and not by `write!`, which would give each line a result to pass up or drop
 
 fn say(text: &[u8]) {
     io::write_all(STDOUT_FILENO, text);
 }
 
-fn number(n: u32) {
+fn number(n: u16) {
     io::print_decimal(STDOUT_FILENO, n as u64);
 }
 
@@ -63,292 +68,220 @@ fn tell_refused(why: Refusal) {
     }
 }
 
-// What a call told.
-fn tell(told: Told) {
+// What a call that was accepted told.
+fn tell_told(told: Told) {
     match told {
         Told::Done => say(b"done"),
         Told::Seeks => say(b"seeks"),
         Told::Holds(name) => {
             say(b"holds ");
-            number(name.0 as u32);
+            number(name.0);
         }
         Told::Freed(name) => {
             say(b"freed ");
-            number(name.0 as u32);
+            number(name.0);
         }
-        Told::Refused(why) => tell_refused(why),
+    }
+}
+
+// What a call answered.
+fn tell(answer: Result<Answer, Refusal>) {
+    match answer {
+        Ok(answer) => tell_told(answer.told),
+        Err(why) => tell_refused(why),
     }
     say(b"\n");
 }
 
 // What is called, of which channel.
-fn tell_call(kind: Kind, channel: u16) {
+fn tell_call(kind: Kind, channel: Channel) {
     match kind {
         Kind::Ask => say(b"ask "),
         Kind::Turn => say(b"turn "),
         Kind::Release => say(b"free "),
     }
-    number(channel as u32);
+    number(channel.id);
     say(b" ");
 }
 
 // What becomes of a channel's energy.
-fn tell_energy(channel: u16, row: u32) {
+fn tell_energy(channel: Channel, row: Option<Name>) {
     say(b"energy ");
-    number(channel as u32);
-    if row == 0 {
-        say(b" has no row\n");
-    } else {
-        say(b" to row ");
-        number(row - 1);
-        say(b"\n");
+    number(channel.id);
+    match row {
+        None => say(b" has no row"),
+        Some(name) => {
+            say(b" to row ");
+            number(name.0);
+        }
     }
+    say(b"\n");
 }
 
 // ---- what is kept
 
-// What becomes of a total: it is cleared for a new holder, or raised by an energy, at most to the
-// largest value.
-#[derive(Clone, Copy)]
-enum Change {
-    Clear,
-    Raise(u8),
-}
-
-fn raised(total: u32, energy: u8) -> u32
-    ensures { (total + energy ≤ 4294967295 → result ≡ total + energy) × (4294967295 < total + energy → result ≡ 4294967295) }
+// What a channel has, from what it is answered and from what it had.
+fn row_after(answer: Result<Answer, Refusal>, had: Option<Name>) -> Option<Name>
+    ensures { note_of result ≡ noted (told_in answer) (note_of had) }
 {
-    if total > 4294967295 - energy as u32 {
-        return 4294967295;
-    }
-    total + energy as u32
-}
-
-fn changed(total: u32, change: Change) -> u32 {
-    match change {
-        Change::Clear => 0,
-        Change::Raise(energy) => raised(total, energy),
-    }
-}
-
-// What stands for the row of a name.
-fn entry(name: Name) -> u32
-    ensures { result ≡ name.0 + 1 }
-{
-    name.0 as u32 + 1
-}
-
-// What a channel has, from what it is told and from what it had.
-fn row_after(told: Told, had: u32) -> u32
-    ensures { result ≡ noted told had }
-{
-    match told {
-        Told::Done => had,
-        Told::Seeks => had,
-        Told::Holds(name) => entry(name),
-        Told::Freed(_) => 0,
-        Told::Refused(_) => had,
-    }
-}
-
-// A new supervisor: idle records, and setup.
-fn begin() -> Desk
-    ensures { Kept result }
-{
-    let mut xs = [0u32; 1];
-    let mut marks = [0u8; 4];
-    let made = setup_of(board(), idle_records(), &mut xs, &mut marks);
-    let answer = made.answer;
-    let told = answer.told;
-    let records = made.records;
-    let rows = [0u32; 4];
-    let totals = [0u32; 3];
-    Desk {
-        records: records,
-        xs: xs,
-        marks: marks,
-        rows: rows,
-        totals: totals,
-        told: told,
-    }
-}
-
-// Setup started again: it declines while a channel is out, and changes nothing then.
-fn set_up(desk: Desk) -> Desk
-    requires { Kept desk }
-    ensures { Kept result × (result.rows ≡ desk.rows) × (result.totals ≡ desk.totals) }
-{
-    let before = desk.records;
-    let mut xs = desk.xs;
-    let mut marks = desk.marks;
-    let made = setup_of(board(), before, &mut xs, &mut marks);
-    let answer = made.answer;
-    let told = answer.told;
-    let records = made.records;
-    let rows = desk.rows;
-    let totals = desk.totals;
-    Desk {
-        records: records,
-        xs: xs,
-        marks: marks,
-        rows: rows,
-        totals: totals,
-        told: told,
-    }
-}
-
-// One call of a channel. Its row follows the answer.
-fn serve(desk: Desk, kind: Kind, channel: u16) -> Desk
-    requires { Kept desk × (channel < 4) }
-    ensures { Kept result × OthersKeep channel desk result × Served kind channel desk result }
-{
-    let event = Event {
-        kind: kind,
-        task: TaskId(channel),
+    let Ok(Answer { told, .. }) = answer else {
+        return had;
     };
-    let before = desk.records;
-    let mut xs = desk.xs;
-    let mut marks = desk.marks;
-    let made = step_of(board(), before, &mut xs, &mut marks, event);
-    let answer = made.answer;
-    let told = answer.told;
-    let records = made.records;
-    let mut rows = desk.rows;
-    rows[channel as usize] = row_after(told, rows[channel as usize]);
-    let totals = desk.totals;
-    Desk {
-        records: records,
-        xs: xs,
-        marks: marks,
-        rows: rows,
-        totals: totals,
-        told: told,
+    match told {
+        Told::Holds(name) => Some(name),
+        Told::Freed(_) => None,
+        Told::Done | Told::Seeks => had,
     }
 }
 
-// The channel's row of the table, if it has one, is changed, and no other channel's. That the row is in
-// the table is proved: nothing tests it here.
-fn change_row(desk: Desk, channel: u16, how: Change) -> Desk
-    requires { Kept desk × (channel < 4) }
-    ensures { Kept result × OthersKeep channel desk result }
-{
-    let mine = desk.rows;
-    let row = mine[channel as usize];
-    if row == 0 {
-        return desk;
-    }
-    let mut totals = desk.totals;
-    totals[row as usize - 1] = changed(totals[row as usize - 1], how);
-    let records = desk.records;
-    let xs = desk.xs;
-    let marks = desk.marks;
-    let rows = desk.rows;
-    let told = desk.told;
-    Desk {
-        records: records,
-        xs: xs,
-        marks: marks,
-        rows: rows,
-        totals: totals,
-        told: told,
+impl Channel {
+    // The channel of a digit.
+    fn from_digit(digit: u8) -> Option<Channel>
+        ensures known { IsSome result ↔ ((48 ≤ digit) × (digit ≤ 51)) }
+        ensures id { IfSome result (λ channel. channel.id ≡ digit - 48) }
+    {
+        match digit {
+            b'0'..=b'3' => Some(Channel {
+                id: u16::from(digit - b'0'),
+            }),
+            _ => None,
+        }
     }
 }
 
-// A row that the last call gave to the channel is cleared.
-fn cleared(desk: Desk, channel: u16) -> Desk
-    requires { Kept desk × (channel < 4) }
-    ensures { Kept result × OthersKeep channel desk result }
-{
-    let told = desk.told;
-    if let Told::Holds(_) = told {
-        return change_row(desk, channel, Change::Clear);
+impl Desk {
+    ghost use Rattle.supervisor.specs.Desk.{RowsApart, OthersKeep, Served};
+
+    // A new supervisor, and what its setup answered: idle records, and setup.
+    fn begin() -> (Desk, Result<Answer, Refusal>) {
+        let mut records = calls::idle_records();
+        let mut xs = [0; 1];
+        let mut marks = [0; 4];
+        let answer = calls::setup(board(), &mut records, &mut xs, &mut marks);
+        let desk = Desk {
+            records,
+            xs,
+            marks,
+            rows: [None; 4],
+            totals: [0; 3],
+        };
+        (desk, answer)
     }
-    desk
-}
 
-// ---- the interrupts
-
-// A call, and its line.
-fn told_serve(desk: Desk, kind: Kind, channel: u16) -> Desk
-    requires { Kept desk × (channel < 4) }
-    ensures { Kept result × OthersKeep channel desk result }
-{
-    tell_call(kind, channel);
-    let served = serve(desk, kind, channel);
-    let told = served.told;
-    tell(told);
-    cleared(served, channel)
-}
-
-// The channel's energy, and its line.
-fn told_add(desk: Desk, channel: u16) -> Desk
-    requires { Kept desk × (channel < 4) }
-    ensures { Kept result × OthersKeep channel desk result }
-{
-    let rows = desk.rows;
-    tell_energy(channel, rows[channel as usize]);
-    change_row(desk, channel, Change::Raise(7))
-}
-
-// A setup started again, and its line.
-fn told_set_up(desk: Desk) -> Desk
-    requires { Kept desk }
-    ensures { Kept result × (result.rows ≡ desk.rows) × (result.totals ≡ desk.totals) }
-{
-    let after = set_up(desk);
-    let told = after.told;
-    say(b"setup ");
-    tell(told);
-    after
-}
-
-// One interrupt: a letter, ask, turn, free, energy or setup, and the channel's digit. Anything else is
-// passed over.
-fn interrupt(desk: Desk, letter: u8, digit: u8) -> Desk
-    requires { Kept desk }
-    ensures { Kept result × OthersKeep (digit - 48) desk result }
-{
-    if digit < b'0' {
-        return desk;
+    // Setup started again: it declines while a channel is out, and changes nothing then.
+    fn set_up(&mut self) -> Result<Answer, Refusal>
+        ensures rows { self.new.rows ≡ self.old.rows }
+        ensures totals { self.new.totals ≡ self.old.totals }
+    {
+        calls::setup(board(), &mut self.records, &mut self.xs, &mut self.marks)
     }
-    if digit > b'3' {
-        return desk;
-    }
-    let channel = digit as u16 - 48;
-    match letter {
-        b'a' => told_serve(desk, Kind::Ask, channel),
-        b't' => told_serve(desk, Kind::Turn, channel),
-        b'f' => told_serve(desk, Kind::Release, channel),
-        b'e' => told_add(desk, channel),
-        b's' => told_set_up(desk),
-        _ => desk,
-    }
-}
 
-// The interrupts in the order in which they come, two bytes each. Whatever they are, afterwards no two
-// channels have one row of the table, and every row that a channel has is in the table.
-fn run(desk: Desk, script: &[u8]) -> Desk
-    requires { Kept desk }
-    ensures { Kept result × RowsApart result }
-{
-    let mut at = desk;
-    let mut i: usize = 0;
-    while i + 1 < script.len() {
-        at = interrupt(at, script[i], script[i + 1]);
-        i += 2;
+    // One call of a channel. Its row follows the answer.
+    fn serve(&mut self, kind: Kind, channel: Channel) -> Result<Answer, Refusal>
+        ensures others { OthersKeep channel.id self.old self.new }
+        ensures served { Served kind channel.id self.old self.new result }
+    {
+        let event = Event {
+            kind,
+            task: TaskId(channel.id),
+        };
+        let answer = calls::step(
+            board(),
+            &mut self.records,
+            &mut self.xs,
+            &mut self.marks,
+            event,
+        );
+        let row = &mut self.rows[channel.id as usize];
+        *row = row_after(answer, *row);
+        answer
     }
-    at
+
+    // The channel's row of the table, if it has one, is changed, and no other channel's. That the row
+    // is in the table is proved: nothing tests it here.
+    fn change_row<F: FnOnce(u32) -> u32 + Drop>(&mut self, channel: Channel, how: F)
+        requires { F.IsAlwaysCallable how }
+        ensures { OthersKeep channel.id self.old self.new }
+    {
+        if let Some(name) = self.rows[channel.id as usize] {
+            let total = &mut self.totals[name.0 as usize];
+            *total = how(*total);
+        }
+    }
+
+    // ---- the interrupts
+
+    // A call, and its line. A row that it gives to the channel is cleared.
+    fn told_serve(&mut self, kind: Kind, channel: Channel)
+        ensures { OthersKeep channel.id self.old self.new }
+    {
+        tell_call(kind, channel);
+        let answer = self.serve(kind, channel);
+        tell(answer);
+        if let Ok(
+            Answer {
+                told: Told::Holds(_),
+                ..
+            },
+        ) = answer
+        {
+            self.change_row(channel, |_| 0);
+        }
+    }
+
+    // The channel's energy, and its line.
+    fn told_add(&mut self, channel: Channel)
+        ensures { OthersKeep channel.id self.old self.new }
+    {
+        tell_energy(channel, self.rows[channel.id as usize]);
+        self.change_row(channel, |total| total.saturating_add(7));
+    }
+
+    // A setup started again, and its line.
+    fn told_set_up(&mut self)
+        ensures rows { self.new.rows ≡ self.old.rows }
+        ensures totals { self.new.totals ≡ self.old.totals }
+    {
+        say(b"setup ");
+        tell(self.set_up());
+    }
+
+    // One interrupt: a letter, ask, turn, free, energy or setup, and the channel's digit. Anything else
+    // is passed over.
+    fn interrupt(&mut self, letter: u8, digit: u8)
+        ensures { OthersKeep (digit - 48) self.old self.new }
+    {
+        let Some(channel) = Channel::from_digit(digit) else {
+            return;
+        };
+        match letter {
+            b'a' => self.told_serve(Kind::Ask, channel),
+            b't' => self.told_serve(Kind::Turn, channel),
+            b'f' => self.told_serve(Kind::Release, channel),
+            b'e' => self.told_add(channel),
+            b's' => self.told_set_up(),
+            _ => {}
+        }
+    }
+
+    // The interrupts in the order in which they come, two bytes each. Whatever they are, afterwards no
+    // two channels have one row of the table, and every row that a channel has is in the table.
+    fn run(&mut self, script: &[u8])
+        ensures { RowsApart self.new }
+    {
+        for pair in script.chunks_exact(2) {
+            self.interrupt(pair[0], pair[1]);
+        }
+    }
 }
 
 fn main() {
-    let desk = begin();
-    let told = desk.told;
+    let (mut desk, answer) = Desk::begin();
     say(b"setup ");
-    tell(told);
+    tell(answer);
     // 0 and 1 seek, 2 waits; 1 writes X last, so 0 goes down to the edge and 1 holds the block; a setup
     // started again declines; both leave, and 2 and 3 do the same
-    run(
-        desk,
+    desk.run(
         b"a0a1a2t0t1t0t0t0t0t0t0t0t1t1t1t1t1t1e0e1e2s0f0a2f1t1a3t2t3t2t2t2t2t2t2t2t3t3t3t3t3t3e2e3e2f2f3",
     );
 }

@@ -2,8 +2,9 @@
 use mathlib.Core.{Path.{◌≡◌, sym, ap, ◌∙◌}, List.{List, [], ◌∷◌, ◌++◌, append_assoc}}
 use Prim.Native.Nat.{ℕ, suc, ◌+◌, ◌≤◌, ◌<◌}
 use native.Mathlib.{Nat.add_assoc, Numerals.add-one, Omega.arith}
-use lib.ListN.{length, take, drop, set, get_or, length-append, length-drop, take-append-drop}
-use lib.Seq.{length-take-le, take_at, drop-append-add, drop-drop, set_split, take-suc}
+use lib.ListN.{length, take, drop, set, length-append, length-drop, take-append-drop}
+use lib.Seq.{length-take-le, take_at, drop-append-add, drop-drop, set_split}
+use borrow.Rule.Slice.PartMut.{put_mid}
 use Rattle.text.specs.Put.{put, Puts}
 
 pub put_byte : (room : List ℕ) (at b : ℕ) → at < length room → set room at b ≡ put room at (b ∷ [])
@@ -55,13 +56,10 @@ module _ (room : List ℕ) (at : ℕ) where
       let long = length_put a (omega arith) in
       put_byte (put room at a) to b (omega arith) ∙ put_append a (b ∷ []) to past (omega arith)
 
-  -- one byte more of a text that is being copied
-  pub put_more : (text : List ℕ) (i : ℕ) → i < length text → at + length text ≤ length room
-      → set (put room at (take i text)) (at + i) (get_or text i 0) ≡ put room at (take (i + 1) text)
-  put_more text i l fits =
-      let long = length-take-le i text (omega arith) in
-      put_byte_after (take i text) (get_or text i 0) (at + i) (omega arith) (omega arith)
-      ∙ ap (put room at) (sym (take-suc text i 0 l) ∙ ap (λ (n : ℕ). take n text) (sym (add-one i)))
+  -- a part of the room, over which a text of its length is written
+  pub put_part : (text : List ℕ) (long : ℕ) → long ≡ length text → put_mid at long room text ≡ put room at text
+  unfolding put
+  put_part text long same = rw (same, drop-drop (length text) at room)
 
 -- two rooms that a writer's contract admits are equal, and so are the two indices
 pub puts_determined : (room : List ℕ) (at : ℕ) (text : List ℕ) (to to' : ℕ) (after after' : List ℕ)

@@ -1,18 +1,19 @@
 -- Histories: what holds after setup and is kept by every call, accepted or refused, holds after every list of calls.
 use mathlib.Core.{Path.{◌≡◌, refl, sym, ap, subst}, Bool.{true≢false, false}, List.{List, [], ◌∷◌, ◌++◌}}
 use Prim.Native.Nat.{ℕ, suc, ◌+◌, ◌≤◌, ◌<◌, zero-le}
+use Rattle.std.specs.Prelude.{Ok, Err}
 use native.Mathlib.{Nat.{le_trans, not-suc-le-zero}, Decide.ℕ_discrete, Omega.arith}
 use lib.Dec.{T}
 use borrow.Author.Tests.{leb-false}
 use Rattle.machine.specs.{Settings.width, Records.is_out}
-use Rattle.demands.specs.{Memory.{Memory, marks_needed, state_of, turns_in, out_of, fill}, Refusals.wrong_moment}
+use Rattle.demands.specs.Memory.{Memory, marks_needed, state_of, turns_in, out_of, fill}
+use Rattle.demands.specs.Refusals.{Verdict, wrong_moment}
 use Rattle.demands.specs.Calls.{Outcome, refuse_or, verdict_of, call, accept, setup}
 use Rattle.demands.specs.History.{run, Answered, history}
 use Rattle.demands.specs.promises.Demands.{SetUp, memory_after}
 use Rattle.machine.specs.promises.Ranges.{WithinLimits}
 use Rattle.machine.specs.declared.{Settings.Settings, State.{State, TheVariants.{Idle, Seeking, Holding}}}
 use Rattle.machine.specs.declared.{Record.Record, Kind.{Kind, TheVariants.{Ask, Turn, Release}}, Event.Event}
-use Rattle.machine.specs.declared.Verdict.{Verdict}
 use Rattle.demands.proofs.calls.Fresh.{fill_at, setup_within, setup_memory, fresh_idle, fresh_none_out}
 use Rattle.demands.proofs.calls.{Fresh.fresh_fit, Outcomes.{Called, taken, refused, called}, Fitting.accept_fits}
 use Rattle.demands.proofs.bridge.AsGrid.{stand_of, grid_of, all_unmarked}
@@ -179,8 +180,8 @@ call_few s event memory few = go (verdict_of s event memory) refl
   where
     go : (verdict : Verdict) → verdict_of s event memory ≡ verdict
         → out_of s (refuse_or verdict memory (ruled s event memory)).memory.records ≤ s.k
-    go (Verdict.Refused why) e = few
-    go Verdict.Accepted e =
+    go (Err why) e = few
+    go (Ok accepted) e =
         let tests = passed s event memory (rw e (ruled_accepted s event memory)) in
         accepted_few s tests.limits event.kind event.task.0 memory tests.fit tests.may few
 

@@ -1,6 +1,7 @@
 -- An accepted call of the machine is a step of its grid: the one place where the two are compared, point by point.
 use mathlib.Core.{Path.{◌≡◌, refl, sym, ap, subst, ◌∙◌}, Logic.{◌⊎◌, inl, inr}, Bool.{true≢false, false}}
 use Prim.Native.Nat.{ℕ, ◌+◌, ◌≤◌, ◌<◌}
+use Rattle.std.specs.Prelude.{Option}
 use native.Mathlib.{Decide.{dec_le, ℕ_discrete}, Omega.arith}
 use lib.{Dec.{T, ltb→lt, eqb→eq}, ListN.get_or}
 use borrow.Author.Tests.{eqb-false}
@@ -164,18 +165,18 @@ module _ (s : Settings) (l : WithinLimits s) (m : Memory) (h : Fit s m) (p : ℕ
           let clears = sym (release_clears s r c p on) in
           record {
             effect = writes_mark r c 0;
-            x_change = λ i j. ap (λ (a : Access). x_at s (store s a m).xs i j) clears;
+            x_change = λ i j. ap (λ (a : Option Access). x_at s (store s a m).xs i j) clears;
             mark_change = mark_put s l m (accept s Release p (Holding (cell r c)) m).memory r c (own s p) 0 on own_mark
                 h.long.marks
-                (ap (λ (a : Access). (store s a m).marks) clears);
+                (ap (λ (a : Option Access). (store s a m).marks) clears);
             move = frees one on;
           }
       go (no off) =
           let none = sym (release_nothing s r c p (omega arith)) in
           record {
             effect = nothing;
-            x_change = λ i j. ap (λ (a : Access). x_at s (store s a m).xs i j) none;
-            mark_change = λ i j place. ap (λ (a : Access). mark_at s (store s a m).marks i j place) none;
+            x_change = λ i j. ap (λ (a : Option Access). x_at s (store s a m).xs i j) none;
+            mark_change = λ i j place. ap (λ (a : Option Access). mark_at s (store s a m).marks i j place) none;
             move = departs {i = r} {j = c} one (omega arith);
           }
 

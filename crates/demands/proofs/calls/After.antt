@@ -2,6 +2,7 @@
 -- of the settings.
 use mathlib.Core.{Path.{◌≡◌, ap, ◌∙◌}, List.List}
 use Prim.Native.Nat.{ℕ, ◌<◌}
+use Rattle.std.specs.Prelude.{Option}
 use native.Mathlib.Nat.{le_trans}
 use lib.{ListN.{get_or, set}, Seq.{get_or-set_same, get_or-set_other}}
 use Rattle.machine.specs.{Records.idle, Turn.access}
@@ -11,7 +12,7 @@ use Rattle.machine.specs.declared.{Settings.Settings, State.State, Record.Record
 use Rattle.demands.proofs.{refusals.Passed.Fit, calls.Effects.store_records}
 
 -- an access leaves the records, into which the call puts the next one
-records_after : (s : Settings) (access : Access) (m : Memory) (p : ℕ) (new : Record)
+records_after : (s : Settings) (access : Option Access) (m : Memory) (p : ℕ) (new : Record)
     → (with_record p new (store s access m)).records ≡ set m.records p new
 records_after s access m p new = ap (λ (records : List Record). set records p new) (store_records s m access)
 

@@ -2,19 +2,23 @@
 -- the register written alone changes.
 use mathlib.Core.{Path.{◌≡◌, refl, sym, ap, subst, ◌∙◌}, Bool.not, List.List}
 use Prim.Native.Nat.{ℕ}
+use Rattle.std.specs.Prelude.{Ok, Some, Option, None}
 use native.Mathlib.Omega.{arith}
 use lib.{Dec.T, ListN.{set, length-set}, Seq.{get_or-set_same, get_or-set_other}}
-use Rattle.machine.specs.{Records.idle, Turn.{access, shown_by, next, turns_after}}
+use Rattle.machine.specs.{Records.idle, Turn.{op_shown, op_reads, access, shown_by, next, turns_after}}
 use Rattle.demands.specs.Memory.{Memory, mark_index, record_of, state_of, with_record, content, put}
 use Rattle.demands.specs.{Touching.{value, store}, Calls.{Outcome, told_of, next_state, record_after, shown_of, call}}
 use Rattle.machine.specs.declared.{Settings.Settings, State.State, Record.Record}
 use Rattle.machine.specs.declared.{Register.{Register, TheVariants.{X, Mark}}, Op.TheVariants.{Read, Write}}
-use Rattle.machine.specs.declared.{Access.{Access, TheVariants.{NoAccess, Touch}}, Kind.Kind, Event.Event}
-use Rattle.machine.specs.declared.Shown.{Shown, TheVariants.Nothing}
+use Rattle.machine.specs.declared.{Access.Access, Kind.Kind, Event.Event}
+use Rattle.machine.specs.declared.{Shown.Shown}
+use Rattle.machine.specs.declared.Op.{Op}
+use Rattle.machine.specs.Grid.{touch}
 use Rattle.demands.specs.promises.OneAccess.{Needed, RegisterNeeded, access_of, AcceptedIn, reads, SameRead}
 use Rattle.demands.specs.promises.OneAccess.{SameEnd, OnlyTheRegisterReadBears, AtX, AtMark, WritesX, WritesMark}
 use Rattle.demands.specs.promises.OneAccess.{HasWritten, ChangesOnly, WrittenChanges}
 use Rattle.demands.specs.promises.OneAccess.{OnlyTheRegisterWrittenChanges, ReadIs, WrittenIs, Shows, EachShows}
+use Rattle.demands.specs.Answers.{shown_in}
 use Rattle.machine.proofs.bridge.Accesses.{write_sees_nothing, read_shown, write_shown}
 use Rattle.demands.proofs.refusals.{Refusing.ruled, Passing.{passed, by_the_rules}, Passed.{Passed, Fit}}
 use Rattle.demands.proofs.calls.OneAccess.{call_needed}
@@ -54,32 +58,51 @@ module _ (s : Settings) (m : Memory) where
   content_with (Mark block place) p new after = refl
 
   -- one access
-  pub store_records : (a : Access) → (store s a m).records ≡ m.records
-  store_records NoAccess = refl
-  store_records (Touch register Read) = refl
-  store_records (Touch register (Write v)) = put_records register v
+  touch_records : (register : Register) (op : Op) → (store s (touch register op) m).records ≡ m.records
+  touch_records register Read = refl
+  touch_records register (Write v) = put_records register v
 
-  store_xs : (a : Access) → ChangesOnly (WritesX a) m.xs (store s a m).xs
-  store_xs NoAccess = same_row _ m.xs
-  store_xs (Touch register Read) = same_row _ m.xs
-  store_xs (Touch register (Write v)) = put_xs register v
+  pub store_records : (a : Option Access) → (store s a m).records ≡ m.records
+  store_records None = refl
+  store_records (Some a) = touch_records a.register a.op
 
-  store_marks : (a : Access) → ChangesOnly (WritesMark s a) m.marks (store s a m).marks
-  store_marks NoAccess = same_row _ m.marks
-  store_marks (Touch register Read) = same_row _ m.marks
-  store_marks (Touch register (Write v)) = put_marks register v
+  touch_xs : (register : Register) (op : Op)
+      → ChangesOnly (WritesX (touch register op)) m.xs (store s (touch register op) m).xs
+  touch_xs register Read = same_row _ m.xs
+  touch_xs register (Write v) = put_xs register v
 
-  stands : (a : Access) → Fit s m → RegisterNeeded s a → HasWritten s a (store s a m)
-  stands NoAccess fit h = tt
-  stands (Touch register Read) fit h = tt
-  stands (Touch register (Write v)) fit h = put_content register v fit h
+  store_xs : (a : Option Access) → ChangesOnly (WritesX a) m.xs (store s a m).xs
+  store_xs None = same_row _ m.xs
+  store_xs (Some a) = touch_xs a.register a.op
+
+  touch_marks : (register : Register) (op : Op)
+      → ChangesOnly (WritesMark s (touch register op)) m.marks (store s (touch register op) m).marks
+  touch_marks register Read = same_row _ m.marks
+  touch_marks register (Write v) = put_marks register v
+
+  store_marks : (a : Option Access) → ChangesOnly (WritesMark s a) m.marks (store s a m).marks
+  store_marks None = same_row _ m.marks
+  store_marks (Some a) = touch_marks a.register a.op
+
+  touch_stands : (register : Register) (op : Op) → Fit s m → Needed s register
+      → HasWritten s (touch register op) (store s (touch register op) m)
+  touch_stands register Read fit h = tt
+  touch_stands register (Write v) fit h = put_content register v fit h
+
+  stands : (a : Option Access) → Fit s m → RegisterNeeded s a → HasWritten s a (store s a m)
+  stands None fit h = tt
+  stands (Some a) fit h = touch_stands a.register a.op fit h
 
   -- a record put in beside it leaves what was written
-  stands_with : (a : Access) (p : ℕ) (new : Record) (after : Memory) → HasWritten s a after
+  touch_with : (register : Register) (op : Op) (p : ℕ) (new : Record) (after : Memory)
+      → HasWritten s (touch register op) after → HasWritten s (touch register op) (with_record p new after)
+  touch_with register Read p new after h = h
+  touch_with register (Write v) p new after h = content_with register p new after ∙ h
+
+  stands_with : (a : Option Access) (p : ℕ) (new : Record) (after : Memory) → HasWritten s a after
       → HasWritten s a (with_record p new after)
-  stands_with NoAccess p new after h = h
-  stands_with (Touch register Read) p new after h = h
-  stands_with (Touch register (Write v)) p new after h = content_with register p new after ∙ h
+  stands_with None p new after h = h
+  stands_with (Some a) p new after h = touch_with a.register a.op p new after h
 
 -- ---- only the register written changes
 
@@ -112,16 +135,24 @@ only_the_register_written_changes s event m t =
 
 -- ---- only the register read bears
 
-same_value : (s : Settings) (m m' : Memory) (a : Access) → SameRead s a m m' → value s a m ≡ value s a m'
-same_value s m m' NoAccess same = refl
-same_value s m m' (Touch register Read) same = same
-same_value s m m' (Touch register (Write v)) same =
-    sym (write_sees_nothing v (content s register m)) ∙ write_sees_nothing v (content s register m')
+module _ (s : Settings) (m m' : Memory) where
+  touch_value : (register : Register) (op : Op) → SameRead s (touch register op) m m'
+      → value s (touch register op) m ≡ value s (touch register op) m'
+  touch_value register Read same = same
+  touch_value register (Write v) same =
+      sym (write_sees_nothing v (content s register m)) ∙ write_sees_nothing v (content s register m')
 
-unread_same : (s : Settings) (m m' : Memory) (a : Access) → T (not (reads a)) → SameRead s a m m'
-unread_same s m m' NoAccess t = tt
-unread_same s m m' (Touch register Read) t = absurd t
-unread_same s m m' (Touch register (Write v)) t = tt
+  same_value : (a : Option Access) → SameRead s a m m' → value s a m ≡ value s a m'
+  same_value None same = refl
+  same_value (Some a) same = touch_value a.register a.op same
+
+  touch_unread : (register : Register) (op : Op) → T (not (op_reads op)) → SameRead s (touch register op) m m'
+  touch_unread register Read t = absurd t
+  touch_unread register (Write v) t = tt
+
+  unread_same : (a : Option Access) → T (not (reads a)) → SameRead s a m m'
+  unread_same None t = tt
+  unread_same (Some a) t = touch_unread a.register a.op t
 
 -- the next state, from one state and one value read
 same_next : (s : Settings) (kind : Kind) (p : ℕ) (state state' : State) (m m' : Memory) → state ≡ state'
@@ -153,7 +184,7 @@ same_end s event m m' t t' e same =
     let put' = next_in_place s event m' (passed s event m' t') in
     record {
       answer = ap (λ (o : Outcome). o.answer) rules
-          ∙ (λ i. record { told = told_of s event.kind (before i) (after i); shown = shown i })
+          ∙ (λ i. Ok (record { told = told_of s event.kind (before i) (after i); shown = shown i }))
           ∙ sym (ap (λ (o : Outcome). o.answer) rules');
       next_record =
           ap (λ (o : Outcome). record_of o.memory p) rules
@@ -175,11 +206,11 @@ module _ (s : Settings) (event : Event) (m : Memory) (t : AcceptedIn s event m) 
   abbrev ended : Memory
   ended = (call s event m).memory
 
-  abbrev shown : Shown
+  abbrev shown : Option Shown
   shown = shown_of s event.kind event.task.0 (state_of m event.task.0) m
 
-  shown_answered : (call s event m).answer.shown ≡ shown
-  shown_answered = ap (λ (o : Outcome). o.answer.shown) (by_the_rules s event m t)
+  shown_answered : shown_in (call s event m).answer ≡ shown
+  shown_answered = ap (λ (o : Outcome). shown_in o.answer) (by_the_rules s event m t)
 
   -- a row that changes nowhere is the same
   abbrev rows_after : WrittenChanges s event m ended
@@ -198,7 +229,7 @@ module _ (s : Settings) (event : Event) (m : Memory) (t : AcceptedIn s event m) 
   register_needed = call_needed s event m (passed s event m t)
 
   -- each access shows as the promise has it: none, a read, a write
-  none_is : access_of s event m ≡ NoAccess → Shows s event m Nothing
+  none_is : access_of s event m ≡ None → Shows s event m None
   none_is is = (record { xs = xs_same; marks = marks_same }, λ m' t' e. bearing m' t' e (rw is tt))
     where
       xs_same : ended.xs ≡ m.xs
@@ -207,7 +238,7 @@ module _ (s : Settings) (event : Event) (m : Memory) (t : AcceptedIn s event m) 
       marks_same : ended.marks ≡ m.marks
       marks_same = rw (ended_stored, is)
 
-  read_is : (register : Register) → access_of s event m ≡ Touch register Read
+  read_is : (register : Register) → access_of s event m ≡ touch register Read
       → ReadIs s event m register (content s register m)
   read_is register is = record {
     needed = rw is at register_needed;
@@ -216,7 +247,7 @@ module _ (s : Settings) (event : Event) (m : Memory) (t : AcceptedIn s event m) 
     unchanged = record { xs = rw (ended_stored, is); marks = rw (ended_stored, is) };
   }
 
-  written_is : (register : Register) (v : ℕ) → access_of s event m ≡ Touch register (Write v)
+  written_is : (register : Register) (v : ℕ) → access_of s event m ≡ touch register (Write v)
       → WrittenIs s event m register v
   written_is register v is = record {
     needed = rw is at register_needed;
@@ -226,12 +257,16 @@ module _ (s : Settings) (event : Event) (m : Memory) (t : AcceptedIn s event m) 
     bears = λ m' t' e. bearing m' t' e (rw is tt);
   }
 
-  shows : (a : Access) → access_of s event m ≡ a → Shows s event m (shown_by a (value s a m))
-  shows NoAccess is = none_is is
-  shows (Touch register Read) is =
+  touch_shows : (register : Register) (op : Op) → access_of s event m ≡ touch register op
+      → Shows s event m (op_shown op register (value s (touch register op) m))
+  touch_shows register Read is =
       subst (Shows s event m) (read_shown register (content s register m)) (read_is register is)
-  shows (Touch register (Write v)) is =
-      subst (Shows s event m) (write_shown register v (value s (Touch register (Write v)) m)) (written_is register v is)
+  touch_shows register (Write v) is =
+      subst (Shows s event m) (write_shown register v (value s (touch register (Write v)) m)) (written_is register v is)
+
+  shows : (a : Option Access) → access_of s event m ≡ a → Shows s event m (shown_by a (value s a m))
+  shows None is = none_is is
+  shows (Some a) is = touch_shows a.register a.op is
 
 pub each_shows : EachShows
 each_shows s event m t =

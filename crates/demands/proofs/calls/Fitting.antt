@@ -3,11 +3,12 @@
 -- in range. Of the turns in that record a call by itself does not say so; a history does (`bridge/Spending`).
 use mathlib.Core.{Path.{◌≡◌, subst}, Bool.{Bool, false}, List.{List, [], ◌∷◌}}
 use Prim.Native.Nat.{ℕ, zero, suc, ◌+◌, ◌≤◌, ◌<◌}
+use Rattle.std.specs.Prelude.{Option, None, Some}
 use native.Mathlib.{Decide.{dec_le, ℕ_discrete}, Omega.arith}
 use lib.{Dec.{T, leb, ltb→lt, le→leb, lt→ltb, lit≤}, ListN.{get_or, set, length-set}}
 use borrow.Author.Tests.{eq-eqb}
 use Rattle.machine.specs.{Settings.width, Records.{idle, point_in_range, state_in_range, turns_in_range}}
-use Rattle.machine.specs.Grid.{point_access, arrive, move, leave, point_turned}
+use Rattle.machine.specs.Grid.{touch, point_access, arrive, move, leave, point_turned}
 use Rattle.machine.specs.Turn.{stand_access, access, turns_after}
 use Rattle.machine.specs.Places.{block}
 use Rattle.demands.specs.Memory.{Memory, mark_index, state_of, turns_in, with_record, with_x, with_mark, put}
@@ -17,8 +18,8 @@ use Rattle.demands.specs.Calls.{next_state, record_after, accept}
 use Rattle.machine.specs.declared.{Settings.Settings, Direction.{Direction, TheVariants.{Right, Down}}}
 use Rattle.machine.specs.declared.Point.{Point, TheVariants.{WriteX, Scan, WriteMark, ReadX, Clear}}
 use Rattle.machine.specs.declared.{State.{State, TheVariants.{Idle, Seeking, Holding}}, Record.Record}
-use Rattle.machine.specs.declared.{Register.{Register, TheVariants.{X, Mark}}, Op.TheVariants.{Read, Write}}
-use Rattle.machine.specs.declared.Access.{Access, TheVariants.{NoAccess, Touch}}
+use Rattle.machine.specs.declared.{Register.{Register, TheVariants.{X, Mark}}, Op.{Op, TheVariants.{Read, Write}}}
+use Rattle.machine.specs.declared.Access.{Access}
 use Rattle.machine.specs.declared.Kind.{Kind, TheVariants.{Ask, Turn, Release}}
 use Rattle.machine.specs.promises.Ranges.{WithinLimits}
 use Rattle.demands.specs.promises.OneAccess.{Takes, Writable}
@@ -174,10 +175,13 @@ module _ (s : Settings) (m : Memory) (h : Fit s m) where
   put_fits (X block) v w = x_fits block v (le→leb v s.n w)
   put_fits (Mark block place) v w = mark_fits (mark_index s block place) v (le→leb v 1 w)
 
-  store_fits : (access : Access) → Writable s access → Fit s (store s access m)
-  store_fits NoAccess w = h
-  store_fits (Touch register Read) w = h
-  store_fits (Touch register (Write v)) w = put_fits register v w
+  touch_fits : (register : Register) (op : Op) → Writable s (touch register op) → Fit s (store s (touch register op) m)
+  touch_fits register Read w = h
+  touch_fits register (Write v) w = put_fits register v w
+
+  store_fits : (access : Option Access) → Writable s access → Fit s (store s access m)
+  store_fits None w = h
+  store_fits (Some access) w = touch_fits access.register access.op w
 
 pub accept_fits : (s : Settings) → WithinLimits s → (kind : Kind) (p : ℕ) (m : Memory) → Fit s m → p < s.n
     → wrong_moment kind (state_of m p) ≡ false

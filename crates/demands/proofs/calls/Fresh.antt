@@ -1,16 +1,18 @@
 -- What an accepted setup leaves: a memory that passes the tests 1 to 3, with every task idle.
 use mathlib.Core.{Path.{◌≡◌, refl, sym, ap, subst, ◌∙◌}, List.List}
 use Prim.Native.Nat.{ℕ, ◌≤◌, ◌<◌, zero-le}
+use Rattle.std.specs.Prelude.{Ok, Err}
 use native.Mathlib.Omega.{arith}
 use lib.Dec.{T, le→leb}
 use lib.ListN.{length, get_or, replicate, drop, length-append, length-replicate, get_or-replicate, get_or-append}
 use Rattle.machine.specs.{Places.blocks, Records.{idle, is_out, turns_in_range}}
 use Rattle.demands.specs.Memory.{Memory, marks_needed, record_of, state_of, turns_in, out_of, view_of, fill}
-use Rattle.demands.specs.{Refusals.setup_verdict, Answers.{said, plain}, Calls.{refuse_or, cleared, setup}}
+use Rattle.demands.specs.{Refusals.{Verdict, setup_verdict}, Answers.{Reply, said, plain}}
+use Rattle.demands.specs.Calls.{refuse_or, cleared, setup}
 use Rattle.demands.specs.promises.{Demands.SetUp, Refusing.{NoneHolds, setup_lines}}
 use Rattle.machine.specs.promises.Ranges.{WithinLimits}
-use Rattle.machine.specs.declared.{Settings.Settings, State.TheVariants.Idle, Record.Record, Verdict.Verdict}
-use Rattle.machine.specs.declared.{Told.Told, Answer.Answer}
+use Rattle.machine.specs.declared.{Settings.Settings, State.TheVariants.Idle, Record.Record}
+use Rattle.machine.specs.declared.{Told.Told}
 use Rattle.demands.proofs.refusals.{Lines.short_line, Refusing.{within, started, setup_exactly}}
 use Rattle.demands.proofs.refusals.Passed.{Long, Fit, none_short_long}
 use Rattle.machine.proofs.refusals.RecordLines.{idle_record_tested}
@@ -31,7 +33,7 @@ fill_at n i a d l h =
 module _ (s : Settings) (lent : Memory) (ok : SetUp s lent) where
   -- it meets no line of its table
   met_none : NoneHolds (setup_lines s lent)
-  met_none = (setup_exactly s lent).accepted.0 (ap (λ (answer : Answer). (said answer).number) ok)
+  met_none = (setup_exactly s lent).accepted.0 (ap (λ (answer : Reply). (said answer).number) ok)
 
   pub setup_within : WithinLimits s
   setup_within = within s met_none.0
@@ -53,9 +55,8 @@ module _ (s : Settings) (lent : Memory) (ok : SetUp s lent) where
     where
       go : (v : Verdict) → (refuse_or v lent (started s lent)).answer ≡ plain Told.Done
           → (refuse_or v lent (started s lent)).memory ≡ cleared s lent
-      go Verdict.Accepted e = refl
-      go (Verdict.Refused why) e =
-          let told : Told.Refused why ≡ Told.Done = ap (λ (answer : Answer). answer.told) e in
+      go (Ok accepted) e = refl
+      go (Err why) e =
           absurd (let z : ◌≡◌ {A = ℕ} 0 1 = cc in omega arith)
 
   pub fresh_fit : Fit s (setup s lent).memory

@@ -2,17 +2,17 @@
 -- release; always a needed one.
 use mathlib.Core.{Path.{◌≡◌, refl}, Bool.{Bool, true, false, cond}}
 use Prim.Native.Nat.{ℕ, ◌+◌, ◌≤◌, ◌<◌}
+use Rattle.std.specs.Prelude.{None}
 use native.Mathlib.Omega.{arith}
 use lib.Dec.{T, leb}
 use borrow.Author.Tests.{le-leb, lt-leb, leb-true}
 use Rattle.machine.specs.{Settings.{width, own}, Places.block_number, Records.{point_in_range, state_in_range}}
-use Rattle.machine.specs.{Grid.point_access, Turn.{stand_access, place_access, access}}
+use Rattle.machine.specs.{Grid.{touch, point_access}, Turn.{stand_access, place_access, access}}
 use Rattle.demands.specs.Memory.{Memory, state_of}
 use Rattle.machine.specs.declared.Settings.{Settings}
 use Rattle.machine.specs.declared.{Point.{Point, TheVariants.{WriteX, Scan, WriteMark, ReadX, Clear}}, Stand.Stand}
 use Rattle.machine.specs.declared.{Place.Place, State.{State, TheVariants.{Idle, Seeking, Holding}}}
 use Rattle.machine.specs.declared.{Register.TheVariants.Mark, Op.TheVariants.Write}
-use Rattle.machine.specs.declared.Access.TheVariants.{NoAccess, Touch}
 use Rattle.machine.specs.declared.{Kind.{Kind, TheVariants.{Ask, Turn, Release}}, Event.Event}
 use Rattle.machine.specs.promises.Ranges.{WithinLimits, StandWithin}
 use Rattle.demands.specs.promises.OneAccess.{Needed, touches, RegisterNeeded, EachOneAccess, access_of}
@@ -58,7 +58,7 @@ module _ (s : Settings) (l : WithinLimits s) (p : ℕ) (low : p < s.n) where
   release_needed place = go (leb (place.r + place.c + 2) s.k) refl
     where
       go : (b : Bool) → leb (place.r + place.c + 2) s.k ≡ b
-          → RegisterNeeded s (cond b (Touch (Mark (block_number s place.r place.c) (own s p)) (Write 0)) NoAccess)
+          → RegisterNeeded s (cond b (touch (Mark (block_number s place.r place.c) (own s p)) (Write 0)) None)
       go true e = ((one_access s l p low).release_block place.r place.c (leb-true (place.r + place.c + 2) s.k e)).1
       go false e = tt
 

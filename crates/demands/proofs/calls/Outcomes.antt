@@ -2,26 +2,23 @@
 -- do with the task, 4 or above, and changes nothing.
 use mathlib.Core.{Path.{◌≡◌, refl, sym, subst}, Bool.{Bool, true, false}, List.{[], ◌∷◌}}
 use Prim.Native.Nat.{◌≤◌}
+use Rattle.std.specs.Prelude.{Err}
 use native.Mathlib.Omega.{arith}
 use borrow.Author.Tests.{lt-leb, leb-false}
-use Rattle.demands.specs.{Memory.{Memory, state_of, out_of}, Answers.{is_accepted, plain}}
-use Rattle.demands.specs.Refusals.{first, when, no_such_task, one_time_release, wrong_moment, moment, too_many_out}
+use Rattle.demands.specs.{Memory.{Memory, state_of, out_of}}
+use Rattle.demands.specs.Refusals.{Verdict, first, when, no_such_task, one_time_release, wrong_moment, moment}
+use Rattle.demands.specs.Refusals.{too_many_out}
 use Rattle.demands.specs.Calls.{Outcome, refuse_or, call}
 use Rattle.machine.specs.RefusalNumbers.{number_of}
 use Rattle.machine.specs.declared.{Settings.Settings, Event.Event, State.{State, TheVariants.{Idle, Seeking, Holding}}}
-use Rattle.machine.specs.declared.{Refusal.{Refusal, TheVariants.{NoSuchTask, OneTime, TooManyOut}}, Verdict.Verdict}
-use Rattle.machine.specs.declared.Told.{Told}
+use Rattle.machine.specs.declared.{Refusal.{Refusal, TheVariants.{NoSuchTask, OneTime, TooManyOut}}}
 use Rattle.machine.specs.promises.Ranges.{WithinLimits}
-use Rattle.demands.proofs.refusals.{Passed.{Fit, May, fit_verdict}, Refusing.{ruled, ruled_accepted}}
-use Rattle.counting.proofs.Bools.{is_true}
-
-pub accepted_answer : (s : Settings) (event : Event) (m : Memory) → is_accepted (ruled s event m).answer ≡ true
-accepted_answer s event m = is_true _ (ruled_accepted s event m)
+use Rattle.demands.proofs.refusals.{Passed.{Fit, May, fit_verdict}, Refusing.{ruled}}
 
 pub data Called (s : Settings) (event : Event) (m : Memory) : Outcome → Type 0 where
   taken : May s event m → Called s event m (ruled s event m)
   refused : (why : Refusal) → 4 ≤ number_of why
-      → Called s event m (record { answer = plain (Told.Refused why); memory = m })
+      → Called s event m (record { answer = Err why; memory = m })
 
 moment_above : (state : State) → 4 ≤ number_of (moment state)
 moment_above Idle = omega arith

@@ -2,6 +2,7 @@
 -- accepted call out.
 use mathlib.Core.{Path.{◌≡◌, refl, sym, ap, subst, ◌∙◌}, Bool.{false, true≢false}, Logic.{◌⊎◌, inl, inr}}
 use Prim.Native.Nat.{ℕ, ◌+◌, ◌*◌, ◌≤◌, ◌<◌}
+use Rattle.std.specs.Prelude.{Option, None}
 use native.Mathlib.{Decide.ℕ_discrete, Omega.arith}
 use lib.{Dec.{T, leb→le, ltb→lt, eqb→eq}, ListN.get_or}
 use borrow.Author.Tests.{le-leb, lt-leb, eqb-false}
@@ -14,7 +15,7 @@ use Rattle.demands.specs.{Calls.{Outcome, accept, call, event_of, ask, turn, rel
 use Rattle.machine.specs.declared.{Settings.Settings, Direction.{Direction, TheVariants.{Right, Down}}}
 use Rattle.machine.specs.declared.Point.{Point, TheVariants.{WriteX, Scan, WriteMark, ReadX, Clear}}
 use Rattle.machine.specs.declared.State.{State, TheVariants.{Idle, Seeking, Holding}}
-use Rattle.machine.specs.declared.{Kind.{Kind, TheVariants.{Ask, Turn, Release}}, Shown.{Shown, TheVariants.Nothing}}
+use Rattle.machine.specs.declared.{Kind.{Kind, TheVariants.{Ask, Turn, Release}}, Shown.Shown}
 use Rattle.demands.specs.promises.OneAccess.{AcceptedIn}
 use Rattle.demands.specs.promises.Rules.{stands_at, frees_at, SeeksAt, x_of, mark_of, long_mark, one_mark, read_x}
 use Rattle.demands.specs.promises.Rules.{one_more, read_mark, wrote_mark, Arrives, at_edge, at_block, Moves, Says}
@@ -33,20 +34,20 @@ use Rattle.machine.proofs.bridge.Turning as turning
 
 module _ (s : Settings) (p : ℕ) where
   -- a line of an arrival says where the task comes to
-  arrives_so : (r c turns : ℕ) (shown : Shown) (m : Memory) (to : Outcome) → Arrives s p r c turns shown m to
+  arrives_so : (r c turns : ℕ) (shown : Option Shown) (m : Memory) (to : Outcome) → Arrives s p r c turns shown m to
       → stands_at s p (arrive s r c) turns shown m ≡ to
   arrives_so r c turns shown m to (at_edge at) =
       ap (λ (state : State). stands_at s p state turns shown m) (sym (arrive_edge s r c at))
   arrives_so r c turns shown m to (at_block on) =
       ap (λ (state : State). stands_at s p state turns shown m) (sym (arrive_block s r c (λ at. omega arith)))
 
-  moves_so : (r c : ℕ) (direction : Direction) (turns : ℕ) (shown : Shown) (m : Memory) (to : Outcome)
+  moves_so : (r c : ℕ) (direction : Direction) (turns : ℕ) (shown : Option Shown) (m : Memory) (to : Outcome)
       → Moves s p r c direction turns shown m to → stands_at s p (move s r c direction) turns shown m ≡ to
   moves_so r c Right turns shown m to moves = arrives_so r (c + 1) turns shown m to moves
   moves_so r c Down turns shown m to moves = arrives_so (r + 1) c turns shown m to moves
 
   -- what the access at a point shows
-  abbrev point_shown : ℕ → ℕ → Point → Memory → Shown
+  abbrev point_shown : ℕ → ℕ → Point → Memory → Option Shown
   point_shown r c point m = shown_by (point_access s p r c point) (value s (point_access s p r c point) m)
 
   -- a turn at a point: the register is written, and the value read makes the next state
@@ -57,7 +58,7 @@ module _ (s : Settings) (p : ℕ) where
       ∙ ap (λ (state : State). accept s Turn p state m) at.stands
 
   -- where the value read decides
-  turned_to : (m : Memory) (r c : ℕ) (point : Point) (to : State) (shown : Shown) → AcceptedIn s (turn p) m
+  turned_to : (m : Memory) (r c : ℕ) (point : Point) (to : State) (shown : Option Shown) → AcceptedIn s (turn p) m
       → SeeksAt s p m r c point
       → to ≡ point_turned s p r c point (value s (point_access s p r c point) m)
       → point_shown r c point m ≡ shown
@@ -131,7 +132,7 @@ module _ (s : Settings) (once : s.mode ≡ 0) (p : ℕ) (m : Memory) (r c : ℕ)
 
 pub follows_the_rules : EachFollowsTheRules
 follows_the_rules s p m Ask t to (asks idle arrives) =
-    by_the_rules s (ask p) m t ∙ arrives_so s p 0 0 0 Nothing m to arrives
+    by_the_rules s (ask p) m t ∙ arrives_so s p 0 0 0 None m to arrives
 follows_the_rules s p m Turn t to (write_x {r} {c} at) = turned_at s p m r c WriteX t at
 follows_the_rules s p m Turn t to (long_scan_marked {r} {c} {h} long at low e) =
     turned_to s p m r c (Scan h) (Seeking (block r c (Clear Right))) _ t at
@@ -191,7 +192,7 @@ zero_or_one v l = go (ℕ_discrete v 0)
 
 module _ (s : Settings) (p : ℕ) (m : Memory) where
   -- a task comes to the edge or to a block
-  arrival : (r c turns : ℕ) (shown : Shown) (left : Memory) → r + c + 1 ≤ s.k
+  arrival : (r c turns : ℕ) (shown : Option Shown) (left : Memory) → r + c + 1 ≤ s.k
       → Arrives s p r c turns shown left (stands_at s p (arrive s r c) turns shown left)
   arrival r c turns shown left within = go (ℕ_discrete (r + c + 1) s.k)
     where
@@ -203,7 +204,7 @@ module _ (s : Settings) (p : ℕ) (m : Memory) where
       go (no d) = subst To (arrive_block s r c d) (at_block (omega arith))
 
   -- and so does one that moves out of a block
-  going : (r c : ℕ) (direction : Direction) (turns : ℕ) (shown : Shown) (left : Memory) → r + c + 2 ≤ s.k
+  going : (r c : ℕ) (direction : Direction) (turns : ℕ) (shown : Option Shown) (left : Memory) → r + c + 2 ≤ s.k
       → Moves s p r c direction turns shown left (stands_at s p (move s r c direction) turns shown left)
   going r c Right turns shown left on = arrival r (c + 1) turns shown left (omega arith)
   going r c Down turns shown left on = arrival (r + 1) c turns shown left (omega arith)
@@ -290,7 +291,7 @@ module _ (s : Settings) (p : ℕ) (m : Memory) where
   by_record : (kind : Kind) → AcceptedIn s (event_of kind p) m → Passed s (event_of kind p) m
       → (state : State) → state_of m p ≡ state → T (state_in_range s state) → wrong_moment kind state ≡ false
       → Says s p m kind (call s (event_of kind p) m)
-  by_record Ask t ok Idle is good moment = spoken Ask t _ (asks is (arrival 0 0 0 Nothing m ok.limits.k_least))
+  by_record Ask t ok Idle is good moment = spoken Ask t _ (asks is (arrival 0 0 0 None m ok.limits.k_least))
   by_record Ask t ok (Seeking stand) is good moment = absurd (true≢false moment)
   by_record Ask t ok (Holding place) is good moment = absurd (true≢false moment)
   by_record Turn t ok Idle is good moment = absurd (true≢false moment)

@@ -2,13 +2,14 @@
 -- needed.
 use mathlib.Core.{Path.{◌≡◌, refl, ap, ap₂, ◌∙◌}, List.{List, [], ◌∷◌}}
 use Prim.Native.Nat.{ℕ, zero, suc, ◌≤◌, ◌<◌}
+use Rattle.std.specs.Prelude.{Err, Ok}
 use native.Mathlib.{Nat.{not-suc-le-zero, le_of_suc-le-suc}, Omega.arith}
 use lib.{Dec.T, ListN.{length, get_or, take, replicate}}
 use Rattle.machine.specs.{Places.blocks, Records.idle}
-use Rattle.demands.specs.{Memory.{Memory, marks_needed, view_of}, Refusals.setup_verdict}
-use Rattle.demands.specs.{Answers.{said, is_accepted, plain}, Calls.{refuse_or, setup}}
-use Rattle.machine.specs.declared.{Settings.Settings, Record.Record, Verdict.Verdict}
-use Rattle.machine.specs.declared.{Told.Told, Answer.Answer}
+use Rattle.demands.specs.{Memory.{Memory, marks_needed, view_of}, Refusals.{Verdict, setup_verdict}}
+use Rattle.demands.specs.{Answers.{Reply, said, is_accepted, plain}, Calls.{refuse_or, setup}}
+use Rattle.machine.specs.declared.{Settings.Settings, Record.Record}
+use Rattle.machine.specs.declared.{Told.Told}
 use Rattle.demands.specs.promises.{Refusing.{NoneHolds, setup_lines, setup_says}, Surplus.needed}
 use Rattle.demands.specs.promises.SettingUp.{clear, EachSetupClears}
 use Rattle.demands.proofs.calls.{Fresh.{setup_memory, lent_long, lent_fresh}, Surplus.{same_rows, fill_needed}}
@@ -30,14 +31,14 @@ module _ (s : Settings) (m : Memory) where
     where
       go : (verdict : Verdict) → T (is_accepted (refuse_or verdict m (started s m)).answer)
           → (refuse_or verdict m (started s m)).answer ≡ plain Told.Done
-      go Verdict.Accepted t = refl
-      go (Verdict.Refused why) t = absurd t
+      go (Ok accepted) t = refl
+      go (Err why) t = absurd t
 
   lent_done : NoneHolds (setup_lines s m) → (setup s m).answer ≡ plain Told.Done
   lent_done none = accepted_done ((setup_exactly s m).accepted.1 none)
 
   done_lent : (setup s m).answer ≡ plain Told.Done → NoneHolds (setup_lines s m)
-  done_lent e = (setup_exactly s m).accepted.0 (ap (λ (answer : Answer). (said answer).number) e)
+  done_lent e = (setup_exactly s m).accepted.0 (ap (λ (answer : Reply). (said answer).number) e)
 
   clears : NoneHolds (setup_lines s m) → needed s (setup s m).memory ≡ clear s
   clears none =
@@ -52,8 +53,8 @@ records_stay : (s : Settings) (m : Memory) → (setup s m).memory.records ≡ m.
 records_stay s m = go (setup_verdict s (view_of s m.records 0) m)
   where
     go : (verdict : Verdict) → (refuse_or verdict m (started s m)).memory.records ≡ m.records
-    go Verdict.Accepted = refl
-    go (Verdict.Refused why) = refl
+    go (Ok accepted) = refl
+    go (Err why) = refl
 
 pub setup_clears : EachSetupClears
 setup_clears s m = record {

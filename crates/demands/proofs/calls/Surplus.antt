@@ -1,6 +1,7 @@
 -- The surplus: no call writes there, and a call on the needed part alone goes as on the whole.
 use mathlib.Core.{Path.{◌≡◌, refl, sym, ap, ap₂, ◌∙◌}, Bool.{Bool, true, false, cond}, List.{List, append-nil}}
 use Prim.Native.Nat.{ℕ, ◌≤◌, ◌<◌, min}
+use Rattle.std.specs.Prelude.{None, Some, Err, Option, Ok}
 use native.Mathlib.{Omega.arith, Decide.dec_le}
 use lib.{Dec.ltb, ListN.{length, take, drop, replicate, length-take, length-replicate, drop_of_length-le}}
 use lib.Seq.{drop-set-lt, take-set-lt, get_or-take, take_at, drop_at}
@@ -9,13 +10,13 @@ use Rattle.machine.specs.{Places.blocks, Records.{idle, is_out, record_in_range}
 use Rattle.machine.specs.Turn.{op_writes, seen, left, access, shown_by, next, turns_after}
 use Rattle.demands.specs.Memory.{Memory, marks_needed, mark_index, state_of, with_record, content, put, x_in_range}
 use Rattle.demands.specs.Memory.{mark_in_range, bad_record, bad_x, bad_mark, out_of, view_of, fill}
-use Rattle.demands.specs.{Touching.{value, store}, Refusals.{row_short, setup_verdict}, Answers.plain}
+use Rattle.demands.specs.{Touching.{value, store}, Refusals.{Verdict, row_short, setup_verdict}, Answers.plain}
 use Rattle.demands.specs.Calls.{Outcome, told_of, next_state, shown_of, record_after, accept, refuse_or, verdict_of}
 use Rattle.demands.specs.Calls.{call, cleared, setup}
 use Rattle.machine.specs.declared.{Settings.Settings, State.State, Record.Record}
 use Rattle.machine.specs.declared.Register.{Register, TheVariants.{X, Mark}}
-use Rattle.machine.specs.declared.{Access.{Access, TheVariants.{NoAccess, Touch}}, Kind.Kind, Event.Event}
-use Rattle.machine.specs.declared.{Verdict.Verdict, Told.Told}
+use Rattle.machine.specs.declared.{Access.Access, Kind.Kind, Event.Event}
+use Rattle.machine.specs.declared.Told.{Told}
 use Rattle.demands.specs.promises.OneAccess.{Needed, RegisterNeeded, access_of, AcceptedIn}
 use Rattle.demands.specs.promises.Surplus.{needed, surplus, SurplusNeverChanges, SurplusNeverBears}
 use Rattle.demands.proofs.refusals.{Refusing.{ruled, started, ruled_accepted}, Passing.passed}
@@ -37,13 +38,13 @@ module _ (s : Settings) (m : Memory) where
   put_surplus (Mark block place) v h =
       same_rows refl refl (drop-set-lt (marks_needed s) m.marks (mark_index s block place) v h.2)
 
-  store_surplus : (a : Access) → RegisterNeeded s a → surplus s (store s a m) ≡ surplus s m
-  store_surplus NoAccess h = refl
-  store_surplus (Touch register op) h = go (op_writes op)
+  store_surplus : (a : Option Access) → RegisterNeeded s a → surplus s (store s a m) ≡ surplus s m
+  store_surplus None h = refl
+  store_surplus (Some a) h = go (op_writes a.op)
     where
-      go : (writes : Bool) → surplus s (cond writes (put s register (left op (content s register m)) m) m)
-          ≡ surplus s m
-      go true = put_surplus register _ h
+      go : (writes : Bool)
+          → surplus s (cond writes (put s a.register (left a.op (content s a.register m)) m) m) ≡ surplus s m
+      go true = put_surplus a.register _ h
       go false = refl
 
   record_surplus : (p : ℕ) (new : Record) → p < s.n → surplus s (with_record p new m) ≡ surplus s m
@@ -53,7 +54,7 @@ module _ (s : Settings) (m : Memory) where
   cleared_surplus = same_rows refl (beyond_fill (blocks s) 0 m.xs)
       (beyond_fill (marks_needed s) 0 m.marks)
 
-accepted_in : (s : Settings) (event : Event) (m : Memory) → verdict_of s event m ≡ Verdict.Accepted
+accepted_in : (s : Settings) (event : Event) (m : Memory) → verdict_of s event m ≡ Ok tt
     → AcceptedIn s event m
 accepted_in s event m e = rw e (ruled_accepted s event m)
 
@@ -62,18 +63,18 @@ call_surplus s event m = go (verdict_of s event m) refl
   where
     go : (verdict : Verdict) → verdict_of s event m ≡ verdict
         → surplus s (refuse_or verdict m (ruled s event m)).memory ≡ surplus s m
-    go Verdict.Accepted e =
+    go (Ok accepted) e =
         let h = passed s event m (accepted_in s event m e) in
         record_surplus s _ event.task.0 _ h.may.known
         ∙ store_surplus s m (access_of s event m) (call_needed s event m h)
-    go (Verdict.Refused why) e = refl
+    go (Err why) e = refl
 
 setup_surplus : (s : Settings) (m : Memory) → surplus s (setup s m).memory ≡ surplus s m
 setup_surplus s m = go (setup_verdict s (view_of s m.records 0) m)
   where
     go : (verdict : Verdict) → surplus s (refuse_or verdict m (started s m)).memory ≡ surplus s m
-    go Verdict.Accepted = cleared_surplus s m
-    go (Verdict.Refused why) = refl
+    go (Ok accepted) = cleared_surplus s m
+    go (Err why) = refl
 
 pub surplus_never_changes : SurplusNeverChanges
 surplus_never_changes = record { calls = call_surplus; setups = setup_surplus }
@@ -136,19 +137,19 @@ module _ (s : Settings) (m : Memory) where
   needed_put (Mark block place) v h =
       same_rows refl refl (sym (take-set-lt (marks_needed s) m.marks (mark_index s block place) v h.2))
 
-  needed_store : (a : Access) → RegisterNeeded s a → store s a (needed s m) ≡ needed s (store s a m)
-  needed_store NoAccess h = refl
-  needed_store (Touch register op) h = rw (needed_content register h) (go (op_writes op))
+  needed_store : (a : Option Access) → RegisterNeeded s a → store s a (needed s m) ≡ needed s (store s a m)
+  needed_store None h = refl
+  needed_store (Some a) h = rw (needed_content a.register h) (go (op_writes a.op))
     where
       go : (writes : Bool)
-          → cond writes (put s register (left op (content s register m)) (needed s m)) (needed s m)
-          ≡ needed s (cond writes (put s register (left op (content s register m)) m) m)
-      go true = needed_put register _ h
+          → cond writes (put s a.register (left a.op (content s a.register m)) (needed s m)) (needed s m)
+          ≡ needed s (cond writes (put s a.register (left a.op (content s a.register m)) m) m)
+      go true = needed_put a.register _ h
       go false = refl
 
-  needed_value : (a : Access) → RegisterNeeded s a → value s a (needed s m) ≡ value s a m
-  needed_value NoAccess h = refl
-  needed_value (Touch register op) h = ap (seen op) (needed_content register h)
+  needed_value : (a : Option Access) → RegisterNeeded s a → value s a (needed s m) ≡ value s a m
+  needed_value None h = refl
+  needed_value (Some a) h = ap (seen a.op) (needed_content a.register h)
 
   needed_with : (p : ℕ) (new : Record) → p < s.n → with_record p new (needed s m) ≡ needed s (with_record p new m)
   needed_with p new low = same_rows (sym (take-set-lt s.n m.records p new low)) refl refl
@@ -182,7 +183,7 @@ accept_cut s kind p state m low h =
     ap₂ (with_record p) after (needed_store s m (access s kind p state) h)
     ∙ needed_with s (store s (access s kind p state) m) p (record_after s kind p state m) low
     in
-    λ i. record { answer = record { told = told_of s kind state (same i); shown = shown i }; memory = memory i }
+    λ i. record { answer = Ok (record { told = told_of s kind state (same i); shown = shown i }); memory = memory i }
 
 call_cut : (s : Settings) (event : Event) (m : Memory) → call s event (needed s m) ≡ cut s (call s event m)
 call_cut s event m = rw (same_verdict s m event) (go (verdict_of s event m) refl)
@@ -190,13 +191,13 @@ call_cut s event m = rw (same_verdict s m event) (go (verdict_of s event m) refl
     go : (verdict : Verdict) → verdict_of s event m ≡ verdict
         → refuse_or verdict (needed s m) (ruled s event (needed s m))
         ≡ cut s (refuse_or verdict m (ruled s event m))
-    go Verdict.Accepted e =
+    go (Ok accepted) e =
         let h = passed s event m (accepted_in s event m e) in
         let p = event.task.0 in
         let state = ap (λ (r : Record). r.state) (get_or-take s.n m.records p idle h.may.known) in
         ap (λ (st : State). accept s event.kind p st (needed s m)) state
         ∙ accept_cut s event.kind p (state_of m p) m h.may.known (call_needed s event m h)
-    go (Verdict.Refused why) e = refl
+    go (Err why) e = refl
 
 setup_cut : (s : Settings) (m : Memory) → setup s (needed s m) ≡ cut s (setup s m)
 setup_cut s m = rw (same_short s m, same_out s m, same_bad_record s m) (go (setup_verdict s (view_of s m.records 0) m))
@@ -207,8 +208,8 @@ setup_cut s m = rw (same_short s m, same_out s m, same_bad_record s m) (go (setu
 
     go : (verdict : Verdict) → refuse_or verdict (needed s m) (started s (needed s m)) ≡ cut s
         (refuse_or verdict m (started s m))
-    go Verdict.Accepted = λ i. record { answer = plain Told.Done; memory = filled i }
-    go (Verdict.Refused why) = refl
+    go (Ok accepted) = λ i. record { answer = plain Told.Done; memory = filled i }
+    go (Err why) = refl
 
 pub surplus_never_bears : SurplusNeverBears
 surplus_never_bears = record {

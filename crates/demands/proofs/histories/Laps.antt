@@ -1,6 +1,6 @@
 -- Tasks that take their turns one task after the other, each call accepted: what each leaves, and what all together
 -- leave.
-use mathlib.Core.{Path.{◌≡◌, refl, ap, subst, ◌∙◌}, Bool.not, List.{List, [], ◌∷◌, ◌++◌}}
+use mathlib.Core.{Path.{◌≡◌, refl, ap, ◌∙◌}, Bool.not, List.{List, [], ◌∷◌, ◌++◌}}
 use Prim.Native.Nat.{ℕ, zero, suc, ◌≤◌, ◌<◌}
 use native.Mathlib.{Nat.{le_refl, not-suc-le-zero}, Decide.dec_lt, Omega.arith}
 use lib.Dec.{T}
@@ -13,7 +13,7 @@ use Rattle.machine.specs.declared.{Kind.{Kind, TheVariants.{Ask, Turn}}, Event.E
 use Rattle.machine.specs.promises.Ranges.{WithinLimits}
 use Rattle.demands.proofs.histories.{Worst.each, Leads.{Leads, leads_nowhere, leads_more, leads_append}}
 use Rattle.demands.proofs.{calls.After.{caller_after, others_after}, bridge.Histories.{InOrder, in_order_kept}}
-use Rattle.demands.proofs.{calls.Outcomes.{accepted_answer, may_accepted}, refusals.Passed.May}
+use Rattle.demands.proofs.{calls.Outcomes.may_accepted, refusals.Passed.May}
 
 module _ (s : Settings) (fair : WithinLimits s) where
   -- an accepted call of task p, whose record says `state`
@@ -53,8 +53,7 @@ module _ {s : Settings} {fair : WithinLimits s} where
       may_accepted s fair (event_of kind p) m f.invariants.fit o ∙ ap (λ (z : State). accept s kind p z m) e in
       record {
         does = does;
-        says = subst (λ (z : State). T (is_accepted (accept s kind p z m).answer)) e
-            (rw (accepted_answer s (event_of kind p) m) tt);
+        says = tt;
         fine = rw (ap (λ (o : Outcome). o.memory) does) at (in_order_kept s fair (event_of kind p) m f);
         its = caller_after s m f.invariants.fit p o.known kind state;
         others = others_after s m p kind state;

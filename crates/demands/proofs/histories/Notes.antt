@@ -1,17 +1,17 @@
 -- A caller's notes: the records of other tasks stay, a refused call changes nothing, and of an accepted one the answer
 -- tells what its task holds (`NamesFollow`).
 use mathlib.Core.{Path.{◌≡◌, refl, sym, ap, subst, ◌∙◌}, Logic.◌↔◌, Bool.true≢false, List.List}
-use Prim.Native.Nat.{ℕ, ◌+◌, ◌<◌}
+use Rattle.std.specs.Prelude.{Result, Ok, Err, is_ok, ℕ, ◌+◌, ◌<◌}
 use native.Mathlib.{Decide.ℕ_discrete, Omega.arith}
 use lib.{Dec.T, ListN.{length, get_or}, Seq.{get_or-set_same, get_or-set_other}}
 use Rattle.machine.specs.Records.{idle, is_idle}
-use Rattle.demands.specs.{Memory.{Memory, state_of}, Answers.told_accepted}
+use Rattle.demands.specs.{Memory.{Memory, state_of}, Refusals.Verdict, Answers.told_in}
 use Rattle.demands.specs.Calls.{Outcome, refuse_or, verdict_of, call, setup}
 use Rattle.demands.specs.promises.{Demands.{HoldsName}, OneAccess.AcceptedIn}
 use Rattle.demands.specs.promises.Notes.{noted, Noted, Agree, notes_after, EachNotesKept}
-use Rattle.machine.specs.declared.{Settings.Settings, Record.Record, Event.Event, Verdict.Verdict, Told.Told}
+use Rattle.machine.specs.declared.{Settings.Settings, Record.Record, Event.Event, Refusal.Refusal, Told.Told}
 use Rattle.demands.proofs.refusals.Refusing.{ruled, ruled_accepted}
-use Rattle.demands.proofs.calls.{Fresh.fresh_idle, SettingUp.setup_clears}
+use Rattle.demands.proofs.calls.{Fresh.fresh_idle, SettingUp.setup_clears, Telling.{accepted, some_told}}
 use Rattle.demands.proofs.histories.Reached.{case_of, name_in, reached_promises}
 
 -- ---- who holds is said by the record
@@ -28,20 +28,20 @@ same_agree s m after p n a b e same h =
 -- ---- what an accepted call tells
 
 -- where no name was held before but "freed" is told, the note after says what is told
-note_says : (told : Told) (before n : ℕ) → T (told_accepted told)
-    → ((m : ℕ) → before ≡ m + 1 → told ≡ Told.Freed (record { 0 = m }))
-    → (noted told before ≡ n + 1) ↔ (told ≡ Told.Holds (record { 0 = n }))
-note_says Told.Done before n ok freed =
+note_says : (told : Result Told Refusal) (before n : ℕ) → T (is_ok told)
+    → ((m : ℕ) → before ≡ m + 1 → told ≡ Ok (Told.Freed (record { 0 = m })))
+    → (noted told before ≡ n + 1) ↔ (told ≡ Ok (Told.Holds (record { 0 = n })))
+note_says (Ok Told.Done) before n ok freed =
     (λ is. absurd (let z = ap case_of (freed n is) in omega arith), λ e. absurd (let z = ap case_of e in omega arith))
-note_says Told.Seeks before n ok freed =
+note_says (Ok Told.Seeks) before n ok freed =
     (λ is. absurd (let z = ap case_of (freed n is) in omega arith), λ e. absurd (let z = ap case_of e in omega arith))
-note_says (Told.Holds name) before n ok freed = (
-  λ is. let same : name.0 ≡ n = omega arith in ap (λ (i : ℕ). Told.Holds (record { 0 = i })) same,
+note_says (Ok (Told.Holds name)) before n ok freed = (
+  λ is. let same : name.0 ≡ n = omega arith in ap (λ (i : ℕ). accepted (Told.Holds (record { 0 = i }))) same,
   λ e. let same = ap name_in e in omega arith,
 )
-note_says (Told.Freed name) before n ok freed =
+note_says (Ok (Told.Freed name)) before n ok freed =
     (λ is. absurd (let none : ⊥ = omega arith in none), λ e. absurd (let z = ap case_of e in omega arith))
-note_says (Told.Refused why) before n ok freed = absurd ok
+note_says (Err why) before n ok freed = absurd ok
 
 module _ (s : Settings) (event : Event) (m : Memory) (notes : List ℕ) (long : event.task.0 < length notes)
     (agree : Agree s m notes) where
@@ -49,7 +49,7 @@ module _ (s : Settings) (event : Event) (m : Memory) (notes : List ℕ) (long : 
   task = event.task.0
 
   abbrev note_of : Outcome → ℕ
-  note_of outcome = noted outcome.answer.told (get_or notes task 0)
+  note_of outcome = noted (told_in outcome.answer) (get_or notes task 0)
 
   -- the task's own note
   own_kept : (n : ℕ) → task < s.n → (note_of (call s event m) ≡ n + 1) ↔ HoldsName s (call s event m).memory task n
@@ -58,12 +58,12 @@ module _ (s : Settings) (event : Event) (m : Memory) (notes : List ℕ) (long : 
       go : (verdict : Verdict) → verdict_of s event m ≡ verdict
           → (note_of (refuse_or verdict m (ruled s event m)) ≡ n + 1)
           ↔ HoldsName s (refuse_or verdict m (ruled s event m)).memory task n
-      go (Verdict.Refused why) e = agree task n l
-      go Verdict.Accepted e =
+      go (Err why) e = agree task n l
+      go (Ok accepted) e =
           let taken : AcceptedIn s event m = rw e (ruled_accepted s event m) in
           let follow = reached_promises.names_follow s event m in
           let is : call s event m ≡ ruled s event m = rw e in
-          let says = note_says (call s event m).answer.told (get_or notes task 0) n taken
+          let says = note_says (told_in (call s event m).answer) (get_or notes task 0) n (some_told _ taken)
           (λ held was. (follow.frees_told held taken).0 ((agree task held l).0 was)) in
           subst (λ (outcome : Outcome). (note_of outcome ≡ n + 1) ↔ HoldsName s outcome.memory task n) is (
             λ noted_so. (follow.holds_told n taken).1 (says.0 noted_so),

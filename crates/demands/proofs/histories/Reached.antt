@@ -2,21 +2,22 @@
 -- the record and the answer that it leaves.
 use mathlib.Core.{Path.{◌≡◌, refl, sym, ap, subst, ◌∙◌}, Logic.inl, Bool.true≢false}
 use mathlib.Core.List.{List, [], ◌∷◌, ◌++◌}
-use Prim.Native.Nat.{ℕ, ◌≤◌, ◌<◌}
+use Rattle.std.specs.Prelude.{Result, Ok, Err, ℕ, ◌≤◌, ◌<◌}
 use native.Mathlib.Omega.{arith}
-use lib.Dec.{T}
 use Rattle.machine.specs.{Records.idle, promises.Ranges.WithinLimits}
-use Rattle.demands.specs.{Memory.{Memory, record_of, state_of, view_of}, Answers.{said, told_accepted, plain}}
-use Rattle.demands.specs.{Refusals.setup_verdict, Calls.{Outcome, event_of, standing, freed, next_state, refuse_or}}
+use Rattle.demands.specs.{Memory.{Memory, record_of, state_of, view_of}, Answers.{said, told_in, plain}}
+use Rattle.demands.specs.Refusals.{Verdict, setup_verdict}
+use Rattle.demands.specs.Calls.{Outcome, event_of, standing, freed, next_state, refuse_or}
 use Rattle.demands.specs.Calls.{verdict_of, call, cleared, setup}
 use Rattle.demands.specs.promises.{Demands.{SetUp, memory_after, HoldsName}, Refusing.{SomeRowShort, call_says}}
 use Rattle.demands.specs.promises.{OneAccess.AcceptedIn, Reached.{Reached, Relied, NamesFollow, ReachedPromises}}
 use Rattle.machine.specs.declared.{Settings.Settings, State.{State, TheVariants.{Idle, Seeking, Holding}}}
-use Rattle.machine.specs.declared.{Kind.{Kind, TheVariants.{Ask, Turn, Release}}, Event.Event, Verdict.Verdict}
-use Rattle.machine.specs.declared.Told.{Told, TheVariants.{Holds, Freed}}
+use Rattle.machine.specs.declared.{Kind.{Kind, TheVariants.{Ask, Turn, Release}}, Event.Event}
+use Rattle.machine.specs.declared.{Refusal.Refusal, Told.{Told, TheVariants.{Holds, Freed}}}
 use Rattle.demands.proofs.refusals.{Passing.passed, Refusing.{accepted_zero, ruled, ruled_accepted}}
 use Rattle.demands.proofs.calls.{Fresh.setup_within, SettingUp.setup_clears, Outcomes.{Called, taken, refused, called}}
-use Rattle.demands.proofs.calls.{Telling.{state_after, told_after, each_answer_tells}, After.others_record}
+use Rattle.demands.proofs.calls.Telling.{accepted, told_accepted, state_after, told_after, each_answer_tells}
+use Rattle.demands.proofs.calls.{After.others_record}
 use Rattle.demands.proofs.bridge.Histories.{run_append, always_in_order}
 use Rattle.demands.proofs.histories.Demand3.{held_names_differ, held_names_below, seeker_never_refused}
 use Rattle.demands.proofs.histories.Demand3.{served_within, each_turns_told}
@@ -49,8 +50,8 @@ reached_again s m h = go (setup_verdict s (view_of s m.records 0) m) refl
   where
     go : (verdict : Verdict) → setup_verdict s (view_of s m.records 0) m ≡ verdict
         → Reached s (set_up_by s m verdict).memory
-    go (Verdict.Refused why) e = h
-    go Verdict.Accepted e =
+    go (Err why) e = h
+    go (Ok accepted) e =
         subst (λ (verdict : Verdict). Reached s (set_up_by s m verdict).memory) e
         (reached_by_setup s m (ap (λ (verdict : Verdict). (set_up_by s m verdict).answer) e))
 
@@ -89,48 +90,49 @@ relied_after s lent events ok = record {
 -- ---- what one call does to names
 
 -- which case an answer is, and the name in it
-abbrev pub case_of : Told → ℕ
-case_of Told.Done = 0
-case_of Told.Seeks = 1
-case_of (Holds name) = 2
-case_of (Freed name) = 3
-case_of (Told.Refused why) = 4
+abbrev pub case_of : Result Told Refusal → ℕ
+case_of (Ok Told.Done) = 0
+case_of (Ok Told.Seeks) = 1
+case_of (Ok (Holds name)) = 2
+case_of (Ok (Freed name)) = 3
+case_of (Err why) = 4
 
-abbrev pub name_in : Told → ℕ
-name_in Told.Done = 0
-name_in Told.Seeks = 0
-name_in (Holds name) = name.0
-name_in (Freed name) = name.0
-name_in (Told.Refused why) = 0
+abbrev pub name_in : Result Told Refusal → ℕ
+name_in (Ok Told.Done) = 0
+name_in (Ok Told.Seeks) = 0
+name_in (Ok (Holds name)) = name.0
+name_in (Ok (Freed name)) = name.0
+name_in (Err why) = 0
 
 module _ (s : Settings) (m : Memory) (p n : ℕ) where
   -- a record of which "holds" is told, or of which "freed" is, holds that name
-  holds_standing : (state : State) → state_of m p ≡ state → standing s state ≡ Holds (record { 0 = n })
+  holds_standing : (state : State) → state_of m p ≡ state → accepted (standing s state) ≡ Ok (Holds (record { 0 = n }))
       → HoldsName s m p n
   holds_standing Idle is e = absurd (let z = ap case_of e in omega arith)
   holds_standing (Seeking stand) is e = absurd (let z = ap case_of e in omega arith)
   holds_standing (Holding place) is e = record { place = place; holds = is; named = sym (ap name_in e) }
 
-  holds_freed : (state : State) → state_of m p ≡ state → freed s state ≡ Freed (record { 0 = n }) → HoldsName s m p n
+  holds_freed : (state : State) → state_of m p ≡ state → accepted (freed s state) ≡ Ok (Freed (record { 0 = n }))
+      → HoldsName s m p n
   holds_freed Idle is e = absurd (let z = ap case_of e in omega arith)
   holds_freed (Seeking stand) is e = absurd (let z = ap case_of e in omega arith)
   holds_freed (Holding place) is e = record { place = place; holds = is; named = sym (ap name_in e) }
 
-never_freed : (s : Settings) (state : State) (n : ℕ) → standing s state ≡ Freed (record { 0 = n }) → ⊥
+never_freed : (s : Settings) (state : State) (n : ℕ) → accepted (standing s state) ≡ Ok (Freed (record { 0 = n })) → ⊥
 never_freed s Idle n e = let z = ap case_of e in omega arith
 never_freed s (Seeking stand) n e = let z = ap case_of e in omega arith
 never_freed s (Holding place) n e = let z = ap case_of e in omega arith
 
-never_holds : (s : Settings) (state : State) (n : ℕ) → freed s state ≡ Holds (record { 0 = n }) → ⊥
+never_holds : (s : Settings) (state : State) (n : ℕ) → accepted (freed s state) ≡ Ok (Holds (record { 0 = n })) → ⊥
 never_holds s Idle n e = let z = ap case_of e in omega arith
 never_holds s (Seeking stand) n e = let z = ap case_of e in omega arith
 never_holds s (Holding place) n e = let z = ap case_of e in omega arith
 
 module _ (s : Settings) (p n : ℕ) (m : Memory) where
-  abbrev told : Kind → Told
-  told kind = (call s (event_of kind p) m).answer.told
+  abbrev told : Kind → Result Told Refusal
+  told kind = told_in (call s (event_of kind p) m).answer
 
-  holds_after : (kind : Kind) → AcceptedIn s (event_of kind p) m → told kind ≡ Holds (record { 0 = n })
+  holds_after : (kind : Kind) → AcceptedIn s (event_of kind p) m → told kind ≡ Ok (Holds (record { 0 = n }))
       → HoldsName s (call s (event_of kind p) m).memory p n
   holds_after Ask t e = holds_standing s _ p n _ (state_after s p m Ask t) (sym (told_after s p m Ask t) ∙ e)
   holds_after Turn t e = holds_standing s _ p n _ (state_after s p m Turn t) (sym (told_after s p m Turn t) ∙ e)
@@ -138,13 +140,13 @@ module _ (s : Settings) (p n : ℕ) (m : Memory) where
 
   -- who holds may be released, and nothing else
   held_freed : (kind : Kind) → AcceptedIn s (event_of kind p) m → HoldsName s m p n
-      → told kind ≡ Freed (record { 0 = n })
+      → told kind ≡ Ok (Freed (record { 0 = n }))
   held_freed Ask t held = absurd (true≢false (rw held.holds at (passed s (event_of Ask p) m t).may.moment))
   held_freed Turn t held = absurd (true≢false (rw held.holds at (passed s (event_of Turn p) m t).may.moment))
   held_freed Release t held = ((each_answer_tells s p m).frees n t held).0
 
   -- "freed" is told by a release, of the name that the task held
-  freed_held : (kind : Kind) → AcceptedIn s (event_of kind p) m → told kind ≡ Freed (record { 0 = n })
+  freed_held : (kind : Kind) → AcceptedIn s (event_of kind p) m → told kind ≡ Ok (Freed (record { 0 = n }))
       → (kind ≡ Release) × HoldsName s m p n
   freed_held Ask t e =
       absurd (never_freed s (next_state s Ask p (state_of m p) m) n (sym (told_after s p m Ask t) ∙ e))
@@ -159,8 +161,8 @@ others_kept s event m q other = go (verdict_of s event m) refl
   where
     go : (verdict : Verdict) → verdict_of s event m ≡ verdict
         → record_of (refuse_or verdict m (ruled s event m)).memory q ≡ record_of m q
-    go (Verdict.Refused why) e = refl
-    go Verdict.Accepted e = others_record s m event.task.0 event.kind (state_of m event.task.0) q other
+    go (Err why) e = refl
+    go (Ok accepted) e = others_record s m event.task.0 event.kind (state_of m event.task.0) q other
 
 follow : (s : Settings) (event : Event) (m : Memory) → NamesFollow s event m
 follow s event m = record {
@@ -175,7 +177,7 @@ follow s event m = record {
   );
   freed_by_release = λ n e.
       (freed_held s event.task.0 n m event.kind
-      (subst (λ (told : Told). T (told_accepted told)) (sym e) tt) e).0;
+      (told_accepted (call s event m).answer _ e) e).0;
 }
 
 pub reached_promises : ReachedPromises

@@ -7,7 +7,7 @@ use Rattle.machine.specs.Records.{is_seeking}
 use Rattle.demands.specs.{Memory.{Memory, state_of}, Answers.is_accepted, Calls.{call, turn}}
 use Rattle.demands.specs.promises.Demands.{SetUp, memory_after, Seeks}
 use Rattle.machine.specs.declared.{Settings.Settings, State.{State, TheVariants.{Idle, Seeking, Holding}}, Event.Event}
-use Rattle.demands.proofs.calls.{Fresh.setup_within, Outcomes.{accepted_answer, may_accepted}}
+use Rattle.demands.proofs.calls.{Fresh.setup_within, Outcomes.may_accepted}
 use Rattle.demands.proofs.{bridge.Histories.always_in_order, refusals.Passed.May}
 
 pub seeker_may : (s : Settings) (m : Memory) (p : ℕ) → p < s.n → T (is_seeking (state_of m p)) → May s (turn p) m
@@ -25,4 +25,4 @@ seeker_accepted s lent events ok p l t =
     let m = memory_after s lent events in
     let taken = may_accepted s (setup_within s lent ok) (turn p) m (always_in_order s lent ok events).invariants.fit
     (seeker_may s m p l t) in
-    rw (taken, accepted_answer s (turn p) m) tt
+    rw taken tt

@@ -16,7 +16,7 @@ use Rattle.machine.specs.declared.{Settings.Settings, Record.Record}
 use Rattle.machine.specs.declared.State.{State, TheVariants.{Idle, Seeking, Holding}}
 use Rattle.machine.specs.declared.{Kind.{Kind, TheVariants.{Ask, Turn, Release}}, Event.Event}
 use Rattle.demands.proofs.calls.Fresh.{setup_within, fresh_idle}
-use Rattle.demands.proofs.calls.Outcomes.{Called, taken, refused, accepted_answer, called, may_accepted}
+use Rattle.demands.proofs.calls.Outcomes.{Called, taken, refused, called, may_accepted}
 use Rattle.demands.proofs.calls.After.{caller_record, others_record, caller_after}
 use Rattle.demands.proofs.{calls.Spending.{spent_as, turned_out}, bridge.Spending.spending}
 use Rattle.demands.proofs.bridge.Histories.{InOrder, in_order_kept, fresh_in_order, always_in_order, run_append}
@@ -80,14 +80,12 @@ module _ (s : Settings) (fair : WithinLimits s) (p : ℕ) (m : Memory) (sound : 
       go outcome (refused why its_task) its e = h
       go outcome (taken o) true e =
           let z : event.task.0 ≡ p = eqb-true event.task.0 p e in
-          rw (accepted_answer s event m, z)
+          rw z
           (own_call_counts event.kind (rw z at o.known) (rw z at o.moment) h)
       go outcome (taken o) false e =
           let d : p ≡ event.task.0 → ⊥ = λ f. eqb-false event.task.0 p e (sym f) in
-          rw (accepted_answer s event m)
-          (subst (λ (r : Record). T (is_out r.state) → r.turns ≡ t)
-          (sym (others_record s m event.task.0 event.kind
-          (state_of m event.task.0) p d)) h)
+          subst (λ (r : Record). T (is_out r.state) → r.turns ≡ t)
+          (sym (others_record s m event.task.0 event.kind (state_of m event.task.0) p d)) h
 
 counts_on : (s : Settings) (fair : WithinLimits s) (p : ℕ) (events : List Event) (m : Memory) (t : ℕ)
     → InOrder s fair m → Counts m p t → Counts (run s events m) p (turns_of p (history s events m) t)
@@ -160,7 +158,7 @@ module _ (s : Settings) (lent : Memory) (ok : SetUp s lent) (p : ℕ) (l : p < s
   one_more_used events seeks =
       ap (λ (h : List Answered). turns_of p h 0) (history_append s events (turn p ∷ []) (setup s lent).memory)
       ∙ turns_append p (history_of s lent events) _ 0
-      ∙ rw (turn_taken events seeks, accepted_answer s (turn p) (memory_after s lent events), eq-eqb p p refl) refl
+      ∙ rw (turn_taken events seeks, eq-eqb p p refl) refl
 
   seeks_or_holds : (events : List Event) → Seeks (memory_after s lent events) p
       → Seeks (memory_after s lent (and_turn events)) p ⊎ HoldsSome (memory_after s lent (and_turn events)) p

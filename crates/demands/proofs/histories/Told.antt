@@ -2,13 +2,13 @@
 -- last accepted answer says. Every accepted call could break it: its answer is read off the record that it leaves.
 use mathlib.Core.{Path.{◌≡◌, refl, sym, ap}, Bool.{Bool, true, false, not, cond, ◌&&◌, true≢false, false≢true}}
 use mathlib.Core.List.{List, [], ◌∷◌}
-use Prim.Native.Nat.{ℕ, ◌<◌}
+use Rattle.std.specs.Prelude.{Ok, ℕ, ◌<◌}
 use native.Mathlib.Omega.{arith}
 use lib.Dec.{eqb}
 use borrow.Author.Tests.{eqb-true, eqb-false, ne_eqb}
 use Rattle.machine.specs.{Places.place_name, Records.{is_holding, is_out}, Turn.{stand_access, begin}}
 use Rattle.demands.specs.{Memory.{Memory, state_of}, Touching.value, Refusals.wrong_moment}
-use Rattle.demands.specs.Answers.{is_accepted, plain}
+use Rattle.demands.specs.Answers.{Reply, told_in, is_accepted, plain}
 use Rattle.demands.specs.Calls.{Outcome, name_at, standing, told_of, next_state, call, setup, release}
 use Rattle.demands.specs.History.{run, history}
 use Rattle.demands.specs.promises.Demands.{SetUp, memory_after, history_of, last_answer, TrueOf, LastAnswerTrue}
@@ -17,9 +17,8 @@ use Rattle.machine.specs.promises.Ranges.{WithinLimits}
 use Rattle.machine.specs.declared.{Settings.Settings, Name.Name, Place.Place}
 use Rattle.machine.specs.declared.State.{State, TheVariants.{Idle, Seeking, Holding}}
 use Rattle.machine.specs.declared.{Kind.{Kind, TheVariants.{Ask, Turn, Release}}, Event.Event, Told.Told}
-use Rattle.machine.specs.declared.Answer.{Answer}
-use Rattle.demands.proofs.calls.{Fresh.{setup_within, fresh_idle}, Telling.tells}
-use Rattle.demands.proofs.calls.Outcomes.{Called, taken, refused, accepted_answer, called, may_accepted}
+use Rattle.demands.proofs.calls.{Fresh.{setup_within, fresh_idle}, Telling.{accepted, tells}}
+use Rattle.demands.proofs.calls.Outcomes.{Called, taken, refused, called, may_accepted}
 use Rattle.demands.proofs.calls.After.{caller_after, others_after}
 use Rattle.demands.proofs.bridge.Histories.{InOrder, in_order_kept, fresh_in_order, always_in_order}
 use Rattle.demands.proofs.refusals.Passed.{Fit, May}
@@ -28,14 +27,14 @@ use Rattle.machine.proofs.bridge.Outs.{begin_out, stand_out}
 -- ---- an accepted call
 
 -- a task that stands is told where
-standing_true : (s : Settings) (state : State) → is_out state ≡ true → TrueOf s state (standing s state)
+standing_true : (s : Settings) (state : State) → is_out state ≡ true → TrueOf s state (accepted (standing s state))
 standing_true s Idle out = absurd (false≢true out)
 standing_true s (Seeking stand) out = refl
 standing_true s (Holding place) out = refl
 
 -- what an accepted call answers is true of the record that it leaves
 answer_true : (s : Settings) (kind : Kind) (p : ℕ) (state : State) (m : Memory) → wrong_moment kind state ≡ false
-    → TrueOf s (next_state s kind p state m) (told_of s kind state (next_state s kind p state m))
+    → TrueOf s (next_state s kind p state m) (accepted (told_of s kind state (next_state s kind p state m)))
 answer_true s Ask p state m e = standing_true s (begin s) (begin_out s)
 answer_true s Turn p Idle m e = absurd (true≢false e)
 answer_true s Turn p (Seeking stand) m e =
@@ -48,35 +47,32 @@ answer_true s Release p (Holding place) m e = tt
 -- ---- a history
 
 -- the last answer of task p, after one more call
-abbrev heard : ℕ → Event → Outcome → Answer → Answer
+abbrev heard : ℕ → Event → Outcome → Reply → Reply
 heard p event outcome before = cond (is_accepted outcome.answer && eqb event.task.0 p) outcome.answer before
 
-module _ (s : Settings) (fair : WithinLimits s) (p : ℕ) (m : Memory) (sound : Fit s m) (before : Answer) where
-  heard_kept : (event : Event) → TrueOf s (state_of m p) before.told
-      → TrueOf s (state_of (call s event m).memory p) (heard p event (call s event m) before).told
+module _ (s : Settings) (fair : WithinLimits s) (p : ℕ) (m : Memory) (sound : Fit s m) (before : Reply) where
+  heard_kept : (event : Event) → TrueOf s (state_of m p) (told_in before)
+      → TrueOf s (state_of (call s event m).memory p) (told_in (heard p event (call s event m) before))
   heard_kept event h = go (call s event m) (called s fair event m sound) (eqb event.task.0 p) refl
     where
       go : (outcome : Outcome) → Called s event m outcome → (its : Bool) → eqb event.task.0 p ≡ its
           → TrueOf s (state_of outcome.memory p)
-          (cond (is_accepted outcome.answer && its) outcome.answer before).told
+          (told_in (cond (is_accepted outcome.answer && its) outcome.answer before))
       go outcome (refused why its_task) its e = h
       go outcome (taken o) true e =
           let z : event.task.0 ≡ p = eqb-true event.task.0 p e in
           let own = caller_after s m sound event.task.0 o.known event.kind
           (state_of m event.task.0) in
-          rw (accepted_answer s event m, ← z, own)
+          rw (← z, own)
           (answer_true s event.kind event.task.0 (state_of m event.task.0) m o.moment)
       go outcome (taken o) false e =
           let d : p ≡ event.task.0 → ⊥ = λ f. eqb-false event.task.0 p e (sym f) in
-          rw (
-            accepted_answer s event m,
-            others_after s m event.task.0 event.kind (state_of m event.task.0) p d,
-          ) h
+          rw (others_after s m event.task.0 event.kind (state_of m event.task.0) p d) h
 
-last_heard : (s : Settings) (fair : WithinLimits s) (p : ℕ) (events : List Event) (m : Memory) (before : Answer)
+last_heard : (s : Settings) (fair : WithinLimits s) (p : ℕ) (events : List Event) (m : Memory) (before : Reply)
     → InOrder s fair m
-    → TrueOf s (state_of m p) before.told
-    → TrueOf s (state_of (run s events m) p) (last_answer p (history s events m) before).told
+    → TrueOf s (state_of m p) (told_in before)
+    → TrueOf s (state_of (run s events m) p) (told_in (last_answer p (history s events m) before))
 last_heard s fair p [] m before f h = h
 last_heard s fair p (event ∷ events) m before f h =
     last_heard s fair p events (call s event m).memory (heard p event (call s event m) before)
@@ -105,9 +101,9 @@ told s lent events ok p place l e =
     let fair = setup_within s lent ok in
     let m = memory_after s lent events in
     let named : Name = name_at s place in
-    let heard : (last_answer p (history_of s lent events) (plain Told.Done)).told ≡ Told.Holds named =
+    let heard : told_in (last_answer p (history_of s lent events) (plain Told.Done)) ≡ Ok (Told.Holds named) =
     rw e at (last_answer_true s lent events ok p l) in
-    let freed : s.mode ≡ 1 → (call s (release p) m).answer.told ≡ Told.Freed named = λ one.
+    let freed : s.mode ≡ 1 → told_in (call s (release p) m).answer ≡ Ok (Told.Freed named) = λ one.
     rw (
       may_accepted s fair (release p) m (always_in_order s lent ok events).invariants.fit
           (holder_may s m p place l one e),

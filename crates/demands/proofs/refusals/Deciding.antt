@@ -3,12 +3,13 @@
 use mathlib.Core.{Path.{◌≡◌, refl, sym, ap, ◌∙◌}, Logic.{inl, inr, ◌↔◌}, Bool.{Bool, true, false, not, ◌&&◌, cond}}
 use mathlib.Core.List.{List, [], ◌∷◌, ◌++◌}
 use Prim.Native.Nat.{ℕ, zero, suc, ◌≤◌}
+use Rattle.std.specs.Prelude.{Ok, Err}
 use native.Mathlib.Omega.{arith}
 use lib.Dec.{T, eqb, T_not}
-use Rattle.demands.specs.Refusals.{Case, first}
+use Rattle.demands.specs.Refusals.{Verdict, Case, first}
 use Rattle.machine.specs.RefusalNumbers.{Said, refusal_said, number_of}
 use Rattle.demands.specs.promises.Refusing.{Line, NoneHolds, FirstHolds, RefusedExactly, Numbered, NoOtherNumber}
-use Rattle.machine.specs.declared.{Refusal.Refusal, Verdict.{Verdict, TheVariants.{Accepted, Refused}}}
+use Rattle.machine.specs.declared.{Refusal.Refusal}
 use Rattle.machine.proofs.refusals.Numbered.{refusal_says}
 use Rattle.counting.proofs.{Bools.{and_l, and_r}, Tested.{Tested, same}}
 
@@ -28,9 +29,9 @@ Are (case ∷ cases) (line ∷ lines) = Is case line × ((line.holds → ⊥) �
 
 -- an answer that is made of a verdict: it has no number where the verdict accepts, and what the refusal says where it
 -- refuses
-module _ (answer : Verdict → Said) (none : (answer Accepted).number ≡ 0)
-    (says : (why : Refusal) → answer (Refused why) ≡ refusal_said why) where
-  says_number : (why : Refusal) → (answer (Refused why)).number ≡ number_of why
+module _ (answer : Verdict → Said) (none : (answer (Ok tt)).number ≡ 0)
+    (says : (why : Refusal) → answer (Err why) ≡ refusal_said why) where
+  says_number : (why : Refusal) → (answer (Err why)).number ≡ number_of why
   says_number why = ap (λ (said : Said). said.number) (says why)
 
   given : (cases : List Case) (lines : List Line) → Are cases lines → (n : ℕ) → 1 ≤ n
@@ -41,15 +42,15 @@ module _ (answer : Verdict → Said) (none : (answer Accepted).number ≡ 0)
   given (case ∷ cases) (line ∷ lines) are n low =
       go case.holds are.0.tested (λ passed. given cases lines (are.1 passed) n low)
     where
-      number : (answer (Refused case.refusal)).number ≡ line.number
+      number : (answer (Err case.refusal)).number ≡ line.number
       number = says_number case.refusal ∙ are.0.numbered
 
       go : (b : Bool) → Tested b line.holds
           → ((line.holds → ⊥) → ((answer (first cases)).number ≡ n) ↔ FirstHolds lines n)
-          → ((answer (cond b (Refused case.refusal) (first cases))).number ≡ n) ↔ FirstHolds (line ∷ lines) n
+          → ((answer (cond b (Err case.refusal) (first cases))).number ≡ n) ↔ FirstHolds (line ∷ lines) n
       go true test later = (λ e. inl (test.says tt, sym number ∙ e), back)
         where
-          back : FirstHolds (line ∷ lines) n → (answer (Refused case.refusal)).number ≡ n
+          back : FirstHolds (line ∷ lines) n → (answer (Err case.refusal)).number ≡ n
           back (inl here) = number ∙ here.1
           back (inr there) = absurd (there.0 (test.says tt))
       go false test later = (λ e. inr (test.shows, (later test.shows).0 e), back)
@@ -68,7 +69,7 @@ module _ (answer : Verdict → Said) (none : (answer Accepted).number ≡ 0)
     where
       go : (b : Bool) → Tested b line.holds
           → ((line.holds → ⊥) → ((answer (first cases)).number ≡ 0) ↔ NoneHolds lines)
-          → ((answer (cond b (Refused case.refusal) (first cases))).number ≡ 0) ↔ NoneHolds (line ∷ lines)
+          → ((answer (cond b (Err case.refusal) (first cases))).number ≡ 0) ↔ NoneHolds (line ∷ lines)
       go true test later = (
         λ e. let low = (refusal_says case.refusal).0 in absurd (omega (arith, says_number case.refusal)),
         λ h. absurd (h.0 (test.says tt)),
@@ -76,8 +77,8 @@ module _ (answer : Verdict → Said) (none : (answer Accepted).number ≡ 0)
       go false test later = (λ e. (test.shows, (later test.shows).0 e), λ h. (later test.shows).1 h.1)
 
   nothing_more : (v : Verdict) → 1 ≤ (answer v).number → ((answer v).number ≡ 3 → ⊥) → (answer v).values ≡ []
-  nothing_more Accepted low other = absurd (omega (arith, none))
-  nothing_more (Refused why) low other =
+  nothing_more (Ok accepted) low other = absurd (omega (arith, none))
+  nothing_more (Err why) low other =
       ap (λ (said : Said). said.values) (says why) ∙ (refusal_says why).1 (λ three. other (says_number why ∙ three))
 
   pub refused_exactly : (cases : List Case) (lines : List Line) → Are cases lines
@@ -89,15 +90,15 @@ module _ (answer : Verdict → Said) (none : (answer Accepted).number ≡ 0)
   }
 
   -- an answer without a number is an acceptance
-  pub accepted_verdict : (v : Verdict) → (answer v).number ≡ 0 → v ≡ Accepted
-  accepted_verdict Accepted e = refl
-  accepted_verdict (Refused why) e = let low = (refusal_says why).0 in absurd (omega (arith, says_number why))
+  pub accepted_verdict : (v : Verdict) → (answer v).number ≡ 0 → v ≡ Ok tt
+  accepted_verdict (Ok accepted) e = refl
+  accepted_verdict (Err why) e = let low = (refusal_says why).0 in absurd (omega (arith, says_number why))
 
   -- what a refusal leaves as it was
-  pub refusal_keeps : {A : Type 0} (after : Verdict → A) (before : A) → ((why : Refusal) → after (Refused why) ≡ before)
+  pub refusal_keeps : {A : Type 0} (after : Verdict → A) (before : A) → ((why : Refusal) → after (Err why) ≡ before)
       → (v : Verdict) → 1 ≤ (answer v).number → after v ≡ before
-  refusal_keeps after before keeps Accepted low = absurd (omega (arith, none))
-  refusal_keeps after before keeps (Refused why) low = keeps why
+  refusal_keeps after before keeps (Ok accepted) low = absurd (omega (arith, none))
+  refusal_keeps after before keeps (Err why) low = keeps why
 
 -- ---- cases in place of others
 
@@ -106,7 +107,7 @@ pub decide_alike : (earlier cases cases' : List Case) → first cases ≡ first 
     → first (earlier ++ cases) ≡ first (earlier ++ cases')
 decide_alike [] cases cases' same = same
 decide_alike (case ∷ earlier) cases cases' same =
-    ap (cond case.holds (Refused case.refusal)) (decide_alike earlier cases cases' same)
+    ap (cond case.holds (Err case.refusal)) (decide_alike earlier cases cases' same)
 
 -- ---- no case holds
 
@@ -114,12 +115,12 @@ abbrev pub NoCase : List Case → Type 0
 NoCase [] = Unit {0}
 NoCase (case ∷ cases) = (case.holds ≡ false) × NoCase cases
 
-pub no_case : (cases : List Case) → first cases ≡ Accepted → NoCase cases
+pub no_case : (cases : List Case) → first cases ≡ Ok tt → NoCase cases
 no_case [] e = tt
 no_case (case ∷ cases) e = go case.holds e (no_case cases)
   where
-    go : (b : Bool) → cond b (Refused case.refusal) (first cases) ≡ Accepted
-        → (first cases ≡ Accepted → NoCase cases) → (b ≡ false) × NoCase cases
+    go : (b : Bool) → cond b (Err case.refusal) (first cases) ≡ Ok tt
+        → (first cases ≡ Ok tt → NoCase cases) → (b ≡ false) × NoCase cases
     go true e later = let z : ◌≡◌ {A = ℕ} 0 1 = cc in absurd (omega arith)
     go false e later = (refl, later e)
 

@@ -1,16 +1,17 @@
 -- What a call that is accepted tells: the tests that it passed, and that its outcome is that of the rules.
 use mathlib.Core.{Path.{◌≡◌, refl}, Logic.{inl, inr}, Bool.{Bool, true, false, not}}
 use Prim.Native.Nat.{ℕ, ◌<◌}
+use Rattle.std.specs.Prelude.{Err, Ok}
 use native.Mathlib.Omega.{arith}
 use lib.{Dec.T, ListN.length}
 use Rattle.machine.specs.{Places.blocks, Records.{state_in_range, turns_in_range}}
 use Rattle.demands.specs.{Memory.{Memory, marks_needed, state_of, turns_in}, Answers.is_accepted}
 use Rattle.demands.specs.Calls.{Outcome, refuse_or, verdict_of, call}
 use Rattle.machine.specs.declared.{Settings.Settings, Event.Event, Row.{Row, TheVariants.{Records, Xs, Marks}}}
-use Rattle.machine.specs.declared.Verdict.{Verdict}
 use Rattle.machine.specs.promises.Ranges.{WithinLimits}
 use Rattle.demands.specs.promises.{Rows.SomeOutOfRange, Refusing.{NoneHolds, SomeRowShort, call_lines}}
 use Rattle.demands.specs.promises.OneAccess.{AcceptedIn}
+use Rattle.demands.specs.Refusals.{Verdict}
 use Rattle.demands.proofs.refusals.Lines.{needed_of, in_range_at, needs_line, bad_line, release_line, right_moment}
 use Rattle.demands.proofs.refusals.{Lines.out_line, Refusing.{accepted_zero, ruled, within, call_refused}}
 use Rattle.demands.proofs.refusals.Passed.{Fit, Passed}
@@ -70,5 +71,5 @@ by_the_rules s event m = go (verdict_of s event m) (ruled s event m)
   where
     go : (verdict : Verdict) (outcome : Outcome) → T (is_accepted (refuse_or verdict m outcome).answer)
         → refuse_or verdict m outcome ≡ outcome
-    go Verdict.Accepted outcome t = refl
-    go (Verdict.Refused why) outcome t = absurd t
+    go (Ok accepted) outcome t = refl
+    go (Err why) outcome t = absurd t

@@ -2,25 +2,25 @@
 -- refusal changes nothing.
 use mathlib.Core.{Path.{◌≡◌, refl, sym, ap, subst}, Logic.{inl, inr, ⊎_elim, ◌↔◌}, Bool.false}
 use mathlib.Core.List.{List, [], ◌∷◌, ◌++◌}
-use Prim.Native.Nat.{ℕ, ◌≤◌}
+use Rattle.std.specs.Prelude.{None, Ok, Err, ℕ, ◌≤◌}
 use native.Mathlib.Omega.{arith}
 use lib.{Dec.T, ListN.length}
 use Rattle.demands.specs.Memory.{Memory, state_of, turns_in, view_of}
 use Rattle.demands.specs.Refusals.{Case, when, first, lent_cases, range_cases, task_cases, outside_limits, row_short}
 use Rattle.demands.specs.Refusals.{no_such_task, one_time_release, wrong_moment, moment, too_many_out, row_busy}
-use Rattle.demands.specs.{Refusals.setup_verdict, Answers.{told_said, said, told_accepted, is_accepted, plain}}
-use Rattle.demands.specs.Calls.{Outcome, told_of, next_state, accept, refuse_or, verdict_of, call, cleared, setup}
+use Rattle.demands.specs.Refusals.{Verdict, setup_verdict}
+use Rattle.demands.specs.Answers.{Reply, told_said, said, shown_in, is_accepted, plain}
+use Rattle.demands.specs.Calls.{Outcome, accept, refuse_or, verdict_of, call, cleared, setup}
 use Rattle.machine.specs.promises.Ranges.{WithinLimits, StateWithin, TurnsWithin}
 use Rattle.demands.specs.promises.Refusing.{Line, line, FirstHolds, RefusedExactly, SomeBusy, task_lines}
 use Rattle.demands.specs.promises.Refusing.{lent_lines, range_lines, setup_lines, call_lines, TellsFirstBad}
 use Rattle.demands.specs.promises.Refusing.{in_records, in_xs, in_marks, call_says, setup_says, CallRefused}
 use Rattle.demands.specs.promises.Refusing.{RefusalExact, RefusedChangesNothing}
-use Rattle.machine.specs.declared.{Settings.Settings, State.{State, TheVariants.{Idle, Seeking, Holding}}}
-use Rattle.machine.specs.declared.{Record.Record, Kind.{Kind, TheVariants.{Ask, Turn, Release}}, Event.Event}
-use Rattle.machine.specs.declared.{Row.TheVariants.{Records, Xs, Marks}, View.View, Verdict.Verdict}
+use Rattle.machine.specs.declared.{Settings.Settings, State.{State}}
+use Rattle.machine.specs.declared.{Record.Record, Event.Event}
+use Rattle.machine.specs.declared.{Row.TheVariants.{Records, Xs, Marks}, View.View}
 use Rattle.machine.specs.declared.Refusal.TheVariants.{BusyRow, NoSuchTask, OneTime, TooManyOut}
-use Rattle.machine.specs.declared.Told.{Told, TheVariants.{Done, Seeks, Holds, Freed, Refused}}
-use Rattle.machine.specs.declared.{Shown.TheVariants.Nothing, Answer.Answer}
+use Rattle.machine.specs.declared.Told.{Told, TheVariants.{Done, Seeks, Holds, Freed}}
 use Rattle.machine.proofs.refusals.{Limits.limits_tested, RecordLines.busy_how, Numbered.refusal_says}
 use Rattle.demands.proofs.refusals.Lines.{short_line, release_line, idle_line, seeking_line, holding_line}
 use Rattle.demands.proofs.refusals.Lines.{out_tested, out_line, moment_cases, moment_as_three}
@@ -31,27 +31,15 @@ use Rattle.counting.proofs.Tested.{Tested, most, either, fails, meaning, passes,
 -- ---- what answers say
 
 -- an answer is accepted exactly if its number is 0
-pub accepted_zero : (answer : Answer) → T (is_accepted answer) ↔ ((said answer).number ≡ 0)
-accepted_zero answer = go answer.told
-  where
-    go : (told : Told) → T (told_accepted told) ↔ ((told_said told).number ≡ 0)
-    go Done = (λ t. refl, λ e. tt)
-    go Seeks = (λ t. refl, λ e. tt)
-    go (Holds name) = (λ t. refl, λ e. tt)
-    go (Freed name) = (λ t. refl, λ e. tt)
-    go (Refused why) = (λ t. absurd t, λ e. let low = (refusal_says why).0 in absurd (omega arith))
+told_zero : (told : Told) → (told_said told).number ≡ 0
+told_zero Done = refl
+told_zero Seeks = refl
+told_zero (Holds name) = refl
+told_zero (Freed name) = refl
 
--- what the rules tell is no refusal
-rules_accept : (s : Settings) (kind : Kind) (before after : State) → T (told_accepted (told_of s kind before after))
-rules_accept s Ask before Idle = tt
-rules_accept s Ask before (Seeking stand) = tt
-rules_accept s Ask before (Holding place) = tt
-rules_accept s Turn before Idle = tt
-rules_accept s Turn before (Seeking stand) = tt
-rules_accept s Turn before (Holding place) = tt
-rules_accept s Release Idle after = tt
-rules_accept s Release (Seeking stand) after = tt
-rules_accept s Release (Holding place) after = tt
+pub accepted_zero : (answer : Reply) → T (is_accepted answer) ↔ ((said answer).number ≡ 0)
+accepted_zero (Ok answer) = (λ t. told_zero answer.told, λ e. tt)
+accepted_zero (Err why) = (λ t. absurd t, λ e. let low = (refusal_says why).0 in absurd (omega arith))
 
 -- what becomes of a call, and of a setup, that is accepted
 abbrev pub ruled : Settings → Event → Memory → Outcome
@@ -61,9 +49,7 @@ abbrev pub started : Settings → Memory → Outcome
 started s m = record { answer = plain Done; memory = cleared s m }
 
 pub ruled_accepted : (s : Settings) (event : Event) (m : Memory) → T (is_accepted (ruled s event m).answer)
-ruled_accepted s event m =
-    rules_accept s event.kind (state_of m event.task.0)
-    (next_state s event.kind event.task.0 (state_of m event.task.0) m)
+ruled_accepted s event m = tt
 
 -- ---- the cases of the definitions are the lines of the table
 
@@ -215,18 +201,18 @@ setup_exactly s m =
 -- ---- and shows no access
 
 call_shows_none : (s : Settings) (event : Event) (m : Memory) → 1 ≤ (call_says s event m).number
-    → (call s event m).answer.shown ≡ Nothing
+    → shown_in (call s event m).answer ≡ None
 call_shows_none s event m low =
     refusal_keeps (λ v. said (refuse_or v m (ruled s event m)).answer)
     ((accepted_zero (ruled s event m).answer).0 (ruled_accepted s event m)) (λ why. refl)
-    (λ v. (refuse_or v m (ruled s event m)).answer.shown) Nothing (λ why. refl) (verdict_of s event m) low
+    (λ v. shown_in (refuse_or v m (ruled s event m)).answer) None (λ why. refl) (verdict_of s event m) low
 
-setup_shows_none : (s : Settings) (m : Memory) → (setup s m).answer.shown ≡ Nothing
+setup_shows_none : (s : Settings) (m : Memory) → shown_in (setup s m).answer ≡ None
 setup_shows_none s m = go (setup_verdict s (view_of s m.records 0) m)
   where
-    go : (v : Verdict) → (refuse_or v m (started s m)).answer.shown ≡ Nothing
-    go Verdict.Accepted = refl
-    go (Verdict.Refused why) = refl
+    go : (v : Verdict) → shown_in (refuse_or v m (started s m)).answer ≡ None
+    go (Ok accepted) = refl
+    go (Err why) = refl
 
 pub refusal_exact : RefusalExact
 refusal_exact = record {

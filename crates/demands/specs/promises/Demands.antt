@@ -2,14 +2,15 @@
 -- nothing else touches." The calls are any list of asks, turns and releases, of any task numbers, the refused ones
 -- included.
 use mathlib.Core.{Path.◌≡◌, Logic.◌⊎◌, Bool.{Bool, true, cond, ◌&&◌}, List.{List, [], ◌∷◌, ◌++◌}}
-use Rattle.std.specs.Prelude.{ℕ, ◌+◌, ◌*◌, ◌/◌, ◌≤◌, ◌<◌, T, eqb}
+use Rattle.std.specs.Prelude.{Result, Ok, Err, ℕ, ◌+◌, ◌*◌, ◌/◌, ◌≤◌, ◌<◌, T, eqb}
 use Rattle.machine.specs.{Settings.bound, Places.place_name, Records.{is_seeking, is_holding}}
-use Rattle.demands.specs.{Memory.{Memory, state_of, turns_in, largest}, Answers.{said, Tells, is_accepted, plain}}
+use Rattle.demands.specs.Memory.{Memory, state_of, turns_in, largest}
+use Rattle.demands.specs.Answers.{Reply, told_in, said, Tells, is_accepted, plain}
 use Rattle.demands.specs.Calls.{name_at, call, setup, turn, release}
 use Rattle.demands.specs.History.{run, Answered, history, turns_of, turns}
 use Rattle.machine.specs.promises.Ranges.{WithinLimits, TurnsWithin}
 use Rattle.machine.specs.declared.{Settings.Settings, Place.Place, State.{State, TheVariants.{Idle, Seeking, Holding}}}
-use Rattle.machine.specs.declared.{Event.Event, Told.Told, Answer.Answer}
+use Rattle.machine.specs.declared.{Refusal.Refusal, Event.Event, Told.Told}
 
 -- ---- what the statements speak of
 
@@ -41,21 +42,21 @@ abbrev pub HoldsSome : Memory → ℕ → Type 0
 HoldsSome m p = T (is_holding (state_of m p))
 
 -- what the last accepted call of task p answered; `before` where there was none
-abbrev pub last_answer : ℕ → List Answered → Answer → Answer
+abbrev pub last_answer : ℕ → List Answered → Reply → Reply
 last_answer p [] before = before
 last_answer p (done ∷ rest) before =
     last_answer p rest (cond (is_accepted done.answer && eqb done.event.task.0 p) done.answer before)
 
 -- what a task was last answered is true of its record: after "seeks" it seeks, after "holds" with a name it holds that
 -- name, and before its first ask and after "freed" it is idle
-abbrev pub TrueOf : Settings → State → Told → Type 0
-TrueOf s Idle Told.Done = Unit {0}
-TrueOf s Idle Told.Seeks = ⊥
-TrueOf s Idle (Told.Holds name) = ⊥
-TrueOf s Idle (Told.Freed name) = Unit {0}
-TrueOf s Idle (Told.Refused why) = ⊥
-TrueOf s (Seeking stand) told = told ≡ Told.Seeks
-TrueOf s (Holding place) told = told ≡ Told.Holds (name_at s place)
+abbrev pub TrueOf : Settings → State → Result Told Refusal → Type 0
+TrueOf s Idle (Ok Told.Done) = Unit {0}
+TrueOf s Idle (Ok Told.Seeks) = ⊥
+TrueOf s Idle (Ok (Told.Holds name)) = ⊥
+TrueOf s Idle (Ok (Told.Freed name)) = Unit {0}
+TrueOf s Idle (Err why) = ⊥
+TrueOf s (Seeking stand) told = told ≡ Ok Told.Seeks
+TrueOf s (Holding place) told = told ≡ Ok (Told.Holds (name_at s place))
 
 -- ---- the statements
 
@@ -76,15 +77,16 @@ abbrev pub LastAnswerTrue : Type 0
 LastAnswerTrue =
     (s : Settings) (lent : Memory) (events : List Event) → SetUp s lent → (p : ℕ) → p < s.n
     → TrueOf s (state_of (memory_after s lent events) p)
-    (last_answer p (history_of s lent events) (plain Told.Done)).told
+    (told_in (last_answer p (history_of s lent events) (plain Told.Done)))
 
 -- the name that a task holds is the one that it was last answered, and the one that its release answers; both answers
 -- are acceptances whose one value is the name
 pub record NameTold (s : Settings) (lent : Memory) (events : List Event) (p n : ℕ) : Type 0 where
-  pub answered : (last_answer p (history_of s lent events) (plain Told.Done)).told ≡ Told.Holds (record { 0 = n })
+  pub answered : told_in (last_answer p (history_of s lent events) (plain Told.Done))
+      ≡ Ok (Told.Holds (record { 0 = n }))
   pub answer_tells : Tells (said (last_answer p (history_of s lent events) (plain Told.Done))) (n ∷ [])
   pub freed : s.mode ≡ 1
-      → (call s (release p) (memory_after s lent events)).answer.told ≡ Told.Freed (record { 0 = n })
+      → told_in (call s (release p) (memory_after s lent events)).answer ≡ Ok (Told.Freed (record { 0 = n }))
   pub freed_tells : s.mode ≡ 1 → Tells (said (call s (release p) (memory_after s lent events)).answer) (n ∷ [])
 
 abbrev pub HeldNameAnswered : Type 0

@@ -2,18 +2,18 @@
 -- by task, n + 1 for the name n and 0 for none. Brought up to date by each answer they agree with the records, and so,
 -- in a reached memory, the names in them differ and are small. Theorem: `notes_kept`.
 use mathlib.Core.{Path.◌≡◌, Logic.◌↔◌, List.List}
-use Rattle.std.specs.Prelude.{ℕ, ◌+◌, ◌*◌, ◌/◌, ◌<◌, length, get_or, set}
-use Rattle.demands.specs.{Memory.Memory, Calls.{call, setup}}
+use Rattle.std.specs.Prelude.{Result, Ok, Err, ℕ, ◌+◌, ◌*◌, ◌/◌, ◌<◌, length, get_or, set}
+use Rattle.demands.specs.{Memory.Memory, Answers.told_in, Calls.{call, setup}}
 use Rattle.demands.specs.promises.{Demands.{SetUp, HoldsName}, Reached.Reached}
-use Rattle.machine.specs.declared.{Settings.Settings, Event.Event, Told.Told}
+use Rattle.machine.specs.declared.{Settings.Settings, Refusal.Refusal, Event.Event, Told.Told}
 
 -- what is noted of a task, from what it is told and from what was noted before
-abbrev pub noted : Told → ℕ → ℕ
-noted Told.Done before = before
-noted Told.Seeks before = before
-noted (Told.Holds name) before = name.0 + 1
-noted (Told.Freed name) before = 0
-noted (Told.Refused why) before = before
+abbrev pub noted : Result Told Refusal → ℕ → ℕ
+noted (Ok Told.Done) before = before
+noted (Ok Told.Seeks) before = before
+noted (Ok (Told.Holds name)) before = name.0 + 1
+noted (Ok (Told.Freed name)) before = 0
+noted (Err why) before = before
 
 -- task p has the name n by the notes
 abbrev pub Noted : List ℕ → ℕ → ℕ → Type 0
@@ -26,7 +26,7 @@ Agree s m notes = (p n : ℕ) → p < s.n → Noted notes p n ↔ HoldsName s m 
 -- the notes after a call: the task's own is brought up to date
 abbrev pub notes_after : Settings → Event → Memory → List ℕ → List ℕ
 notes_after s event m notes =
-    set notes event.task.0 (noted (call s event m).answer.told (get_or notes event.task.0 0))
+    set notes event.task.0 (noted (told_in (call s event m).answer) (get_or notes event.task.0 0))
 
 pub record NotesKept (s : Settings) : Type 0 where
   -- empty notes agree after an accepted setup; a setup, accepted or not, leaves notes true

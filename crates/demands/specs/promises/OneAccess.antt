@@ -3,16 +3,17 @@
 -- changes." 02, P6: an answer shows that access. Theorems: `one_access`, `only_the_register_read_bears`,
 -- `only_the_register_written_changes`, `each_shows`.
 use mathlib.Core.{Path.◌≡◌, Bool.{Bool, true, false, not}, List.List}
-use Rattle.std.specs.Prelude.{ℕ, ◌+◌, ◌≤◌, ◌<◌}
+use Rattle.std.specs.Prelude.{Option, None, Some, ℕ, ◌+◌, ◌≤◌, ◌<◌}
 use lib.{Dec.T, ListN.{length, get_or}}
-use Rattle.machine.specs.{Settings.{width, own}, Places.{blocks, block_number, cell}, Turn.access}
-use Rattle.demands.specs.{Memory.{Memory, marks_needed, mark_index, record_of, state_of, content}, Answers.is_accepted}
+use Rattle.machine.specs.{Settings.{width, own}, Places.{blocks, block_number, cell}, Grid.touch}
+use Rattle.machine.specs.Turn.{op_reads, access}
+use Rattle.demands.specs.Memory.{Memory, marks_needed, mark_index, record_of, state_of, content}
+use Rattle.demands.specs.Answers.{shown_in, is_accepted}
 use Rattle.demands.specs.Calls.{record_after, call}
 use Rattle.machine.specs.promises.Ranges.{WithinLimits, StandWithin}
 use Rattle.machine.specs.declared.{Settings.Settings, Stand.Stand, State.{State, TheVariants.{Seeking, Holding}}}
-use Rattle.machine.specs.declared.{Register.{Register, TheVariants.{X, Mark}}, Op.TheVariants.{Read, Write}}
-use Rattle.machine.specs.declared.{Access.{Access, TheVariants.{NoAccess, Touch}}, Letter.TheVariants.{R, W}}
-use Rattle.machine.specs.declared.{Shown.{Shown, TheVariants.{Nothing, Touched}}, Event.Event}
+use Rattle.machine.specs.declared.{Register.{Register, TheVariants.{X, Mark}}, Op.{Op, TheVariants.{Read, Write}}}
+use Rattle.machine.specs.declared.{Access.Access, Letter.{Letter, TheVariants.{R, W}}, Shown.Shown, Event.Event}
 use Rattle.machine.specs.declared.Kind.{Kind, TheVariants.{Ask, Turn, Release}}
 
 -- ---- which register
@@ -23,14 +24,27 @@ Needed s (X block) = block < blocks s
 Needed s (Mark block place) = (block < blocks s) × (place < width s) × (mark_index s block place < marks_needed s)
 
 -- there is an access
-abbrev pub touches : Access → Bool
-touches NoAccess = false
-touches (Touch register op) = true
+abbrev pub touches : Option Access → Bool
+touches None = false
+touches (Some access) = true
 
 -- the register of an access, where there is one, is needed
-abbrev pub RegisterNeeded : Settings → Access → Type 0
-RegisterNeeded s NoAccess = Unit {0}
-RegisterNeeded s (Touch register op) = Needed s register
+abbrev pub RegisterNeeded : Settings → Option Access → Type 0
+RegisterNeeded s None = Unit {0}
+RegisterNeeded s (Some access) = Needed s access.register
+
+-- a fact where the operation reads, of the value that it writes, and of nowhere but where it writes
+abbrev pub IfRead : Op → Type 0 → Type 0
+IfRead Read fact = fact
+IfRead (Write v) fact = Unit {0}
+
+abbrev pub IfWritten : Op → (ℕ → Type 0) → Type 0
+IfWritten Read fact = Unit {0}
+IfWritten (Write v) fact = fact v
+
+abbrev pub WrittenAt : Op → Type 0 → Type 0
+WrittenAt Read at = ⊥
+WrittenAt (Write v) at = at
 
 -- the value that an access writes, where it writes one, is in its register's range: an X number is at most N, a mark 0
 -- or 1
@@ -38,21 +52,20 @@ abbrev pub Takes : Settings → Register → ℕ → Type 0
 Takes s (X block) v = v ≤ s.n
 Takes s (Mark block place) v = v ≤ 1
 
-abbrev pub Writable : Settings → Access → Type 0
-Writable s NoAccess = Unit {0}
-Writable s (Touch register Read) = Unit {0}
-Writable s (Touch register (Write v)) = Takes s register v
+abbrev pub Writable : Settings → Option Access → Type 0
+Writable s None = Unit {0}
+Writable s (Some access) = IfWritten access.op (Takes s access.register)
 
 -- an ask: "No register is touched." A turn: "for a seeking task p, exactly one access". A release: "if r+c ≤ k-2 its
 -- own mark in that block becomes 0; otherwise no access"
 pub record OneAccess (s : Settings) (p : ℕ) : Type 0 where
-  pub ask : (state : State) → access s Ask p state ≡ NoAccess
+  pub ask : (state : State) → access s Ask p state ≡ None
   pub turn : (stand : Stand) → StandWithin s stand
       → T (touches (access s Turn p (Seeking stand))) × RegisterNeeded s (access s Turn p (Seeking stand))
   pub release_block : (r c : ℕ) → r + c + 2 ≤ s.k
-      → (access s Release p (Holding (cell r c)) ≡ Touch (Mark (block_number s r c) (own s p)) (Write 0))
+      → (access s Release p (Holding (cell r c)) ≡ touch (Mark (block_number s r c) (own s p)) (Write 0))
       × Needed s (Mark (block_number s r c) (own s p))
-  pub release_edge : (r c : ℕ) → r + c + 1 ≡ s.k → access s Release p (Holding (cell r c)) ≡ NoAccess
+  pub release_edge : (r c : ℕ) → r + c + 1 ≡ s.k → access s Release p (Holding (cell r c)) ≡ None
   -- and what is written is in its register's range
   pub writes : (kind : Kind) (state : State) → Writable s (access s kind p state)
 
@@ -62,7 +75,7 @@ EachOneAccess = (s : Settings) → WithinLimits s → (p : ℕ) → p < s.n → 
 -- ---- its effect
 
 -- the access that a call makes, by the record of its task
-abbrev pub access_of : Settings → Event → Memory → Access
+abbrev pub access_of : Settings → Event → Memory → Option Access
 access_of s event m = access s event.kind event.task.0 (state_of m event.task.0)
 
 -- the call is accepted on this memory
@@ -70,16 +83,14 @@ abbrev pub AcceptedIn : Settings → Event → Memory → Type 0
 AcceptedIn s event m = T (is_accepted (call s event m).answer)
 
 -- it reads a register
-abbrev pub reads : Access → Bool
-reads NoAccess = false
-reads (Touch register Read) = true
-reads (Touch register (Write v)) = false
+abbrev pub reads : Option Access → Bool
+reads None = false
+reads (Some access) = op_reads access.op
 
 -- two memories agree on the register that an access reads
-abbrev pub SameRead : Settings → Access → Memory → Memory → Type 0
-SameRead s NoAccess m m' = Unit {0}
-SameRead s (Touch register Read) m m' = content s register m ≡ content s register m'
-SameRead s (Touch register (Write v)) m m' = Unit {0}
+abbrev pub SameRead : Settings → Option Access → Memory → Memory → Type 0
+SameRead s None m m' = Unit {0}
+SameRead s (Some access) m m' = IfRead access.op (content s access.register m ≡ content s access.register m')
 
 -- a call on two memories gives the same answer and the same next record
 pub record SameEnd (s : Settings) (event : Event) (m m' : Memory) : Type 0 where
@@ -108,21 +119,18 @@ AtMark s (X block) i = ⊥
 AtMark s (Mark block place) i = i ≡ mark_index s block place
 
 -- an access writes the X number of this block; the mark at this index
-abbrev pub WritesX : Access → ℕ → Type 0
-WritesX NoAccess b = ⊥
-WritesX (Touch register Read) b = ⊥
-WritesX (Touch register (Write v)) b = AtX register b
+abbrev pub WritesX : Option Access → ℕ → Type 0
+WritesX None b = ⊥
+WritesX (Some access) b = WrittenAt access.op (AtX access.register b)
 
-abbrev pub WritesMark : Settings → Access → ℕ → Type 0
-WritesMark s NoAccess i = ⊥
-WritesMark s (Touch register Read) i = ⊥
-WritesMark s (Touch register (Write v)) i = AtMark s register i
+abbrev pub WritesMark : Settings → Option Access → ℕ → Type 0
+WritesMark s None i = ⊥
+WritesMark s (Some access) i = WrittenAt access.op (AtMark s access.register i)
 
 -- the register written has the value written
-abbrev pub HasWritten : Settings → Access → Memory → Type 0
-HasWritten s NoAccess after = Unit {0}
-HasWritten s (Touch register Read) after = Unit {0}
-HasWritten s (Touch register (Write v)) after = content s register after ≡ v
+abbrev pub HasWritten : Settings → Option Access → Memory → Type 0
+HasWritten s None after = Unit {0}
+HasWritten s (Some access) after = IfWritten access.op (λ v. content s access.register after ≡ v)
 
 -- a row is as long as before, and every element is as before but at these indices
 pub record ChangesOnly {A : Type 0} (indices : ℕ → Type 0) (row after : List A) : Type 0 where
@@ -173,14 +181,17 @@ pub record WrittenIs (s : Settings) (event : Event) (m : Memory) (register : Reg
   pub marks : ChangesOnly (AtMark s register) m.marks (call s event m).memory.marks
   pub bears : NothingBears s event m
 
+abbrev pub ShownIs : Settings → Event → Memory → Letter → Register → ℕ → Type 0
+ShownIs s event m R register v = ReadIs s event m register v
+ShownIs s event m W register v = WrittenIs s event m register v
+
 -- what is shown is so; where no access is shown none was made. A write that leaves what stood there has no effect to
 -- tell it by: which access it was is said line by line in `Rules`
-abbrev pub Shows : Settings → Event → Memory → Shown → Type 0
-Shows s event m Nothing = NothingChanges m (call s event m).memory × NothingBears s event m
-Shows s event m (Touched R register v) = ReadIs s event m register v
-Shows s event m (Touched W register v) = WrittenIs s event m register v
+abbrev pub Shows : Settings → Event → Memory → Option Shown → Type 0
+Shows s event m None = NothingChanges m (call s event m).memory × NothingBears s event m
+Shows s event m (Some shown) = ShownIs s event m shown.letter shown.register shown.value
 
 abbrev pub EachShows : Type 0
 EachShows =
     (s : Settings) (event : Event) (m : Memory) → AcceptedIn s event m
-    → Shows s event m (call s event m).answer.shown
+    → Shows s event m (shown_in (call s event m).answer)

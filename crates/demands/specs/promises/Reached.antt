@@ -4,9 +4,10 @@
 -- used; with any permitted settings there is one (`SetupTakes`). Beside it, of any memory: what one call does to names,
 -- told by its answer. Theorem: `reached_promises`.
 use mathlib.Core.{Path.◌≡◌, Logic.◌↔◌, List.List}
-use Rattle.std.specs.Prelude.{ℕ, ◌+◌, ◌*◌, ◌/◌, ◌≤◌, ◌<◌, T}
+use Rattle.std.specs.Prelude.{Ok, ℕ, ◌+◌, ◌*◌, ◌/◌, ◌≤◌, ◌<◌, T}
 use Rattle.machine.specs.{Settings.bound, Records.idle, promises.Ranges.WithinLimits}
-use Rattle.demands.specs.{Memory.{Memory, record_of, turns_in}, Answers.is_accepted, Calls.{call, setup, turn}}
+use Rattle.demands.specs.{Memory.{Memory, record_of, turns_in}, Answers.{told_in, is_accepted}}
+use Rattle.demands.specs.Calls.{call, setup, turn}
 use Rattle.demands.specs.promises.{Demands.{SetUp, memory_after, HoldsName, Seeks}, OneAccess.AcceptedIn}
 use Rattle.demands.specs.promises.Refusing.{SomeRowShort, call_says}
 use Rattle.machine.specs.declared.{Settings.Settings, Kind.TheVariants.Release, Event.Event, Told.Told}
@@ -35,12 +36,12 @@ pub record NamesFollow (s : Settings) (event : Event) (m : Memory) : Type 0 wher
   -- after an accepted call its task holds a name exactly if the answer is "holds" with that name
   pub holds_told : (n : ℕ) → AcceptedIn s event m
       → HoldsName s (call s event m).memory event.task.0 n
-      ↔ ((call s event m).answer.told ≡ Told.Holds (record { 0 = n }))
+      ↔ (told_in (call s event m).answer ≡ Ok (Told.Holds (record { 0 = n })))
   -- before it the task held a name exactly if the answer is "freed" with that name
   pub frees_told : (n : ℕ) → AcceptedIn s event m
-      → HoldsName s m event.task.0 n ↔ ((call s event m).answer.told ≡ Told.Freed (record { 0 = n }))
+      → HoldsName s m event.task.0 n ↔ (told_in (call s event m).answer ≡ Ok (Told.Freed (record { 0 = n })))
   -- no ask and no turn answers "freed"
-  pub freed_by_release : (n : ℕ) → (call s event m).answer.told ≡ Told.Freed (record { 0 = n })
+  pub freed_by_release : (n : ℕ) → told_in (call s event m).answer ≡ Ok (Told.Freed (record { 0 = n }))
       → event.kind ≡ Release
 
 pub record ReachedPromises : Type 0 where

@@ -2,10 +2,11 @@
 -- line carries its own number. Settings, task number and memory are any. The tests of the definitions are not cited.
 -- Theorems: `refusal_exact`, `no_other_number`, `refused_changes_nothing`, `block_by_block`.
 use mathlib.Core.{Path.◌≡◌, Logic.{◌⊎◌, ◌↔◌}, List.{List, [], ◌∷◌}}
-use Rattle.std.specs.Prelude.{ℕ, ◌≤◌, ◌<◌}
+use Rattle.std.specs.Prelude.{None, Err, ℕ, ◌≤◌, ◌<◌}
 use lib.{Dec.T, ListN.length}
 use Rattle.machine.specs.{Settings.width, Records.idle, RefusalNumbers.{Said, number_of}}
-use Rattle.demands.specs.{Memory.{Memory, mark_index, record_of, state_of}, Answers.{said, is_accepted, plain}}
+use Rattle.demands.specs.Memory.{Memory, mark_index, record_of, state_of}
+use Rattle.demands.specs.Answers.{Reply, shown_in, said, is_accepted}
 use Rattle.demands.specs.Calls.{call, setup}
 use Rattle.machine.specs.promises.Ranges.{WithinLimits, seeks_or_holds}
 use Rattle.demands.specs.promises.Rows.{NeedsMore, OutOfRangeAt, SomeOutOfRange}
@@ -13,7 +14,6 @@ use Rattle.machine.specs.declared.{Settings.Settings, Stand.Stand, Place.Place}
 use Rattle.machine.specs.declared.State.{State, TheVariants.{Idle, Seeking, Holding}}
 use Rattle.machine.specs.declared.{Kind.{Kind, TheVariants.{Ask, Turn, Release}}, Event.Event}
 use Rattle.machine.specs.declared.{Row.{Row, TheVariants.{Records, Xs, Marks}}, Refusal.Refusal}
-use Rattle.machine.specs.declared.{Shown.TheVariants.Nothing, Told.Told, Answer.Answer}
 use Rattle.counting.specs.Counting.{count}
 
 -- ---- the form of every table
@@ -148,12 +148,12 @@ pub record RefusalExact : Type 0 where
   pub setups : (s : Settings) (m : Memory) → RefusedExactly (setup_says s m) (setup_lines s m)
   -- 02, P6: an access is shown by an accepted turn or release; a refusal shows none, and setup shows none
   pub calls_show_none : (s : Settings) (event : Event) (m : Memory) → 1 ≤ (call_says s event m).number
-      → (call s event m).answer.shown ≡ Nothing
-  pub setups_show_none : (s : Settings) (m : Memory) → (setup s m).answer.shown ≡ Nothing
+      → shown_in (call s event m).answer ≡ None
+  pub setups_show_none : (s : Settings) (m : Memory) → shown_in (setup s m).answer ≡ None
   -- an answer is an acceptance exactly if it has no number of refusal, and a refusal's number is the one that its
   -- answer has
-  pub acceptance : (answer : Answer) → T (is_accepted answer) ↔ ((said answer).number ≡ 0)
-  pub numbered : (why : Refusal) → number_of why ≡ (said (plain (Told.Refused why))).number
+  pub acceptance : (answer : Reply) → T (is_accepted answer) ↔ ((said answer).number ≡ 0)
+  pub numbered : (why : Refusal) → number_of why ≡ (said (Err why)).number
   -- "retire 6": no refusal has this number, so no answer of any call, of opening, of a reader or of a writer
   pub six_retired : (why : Refusal) → number_of why ≡ 6 → ⊥
 

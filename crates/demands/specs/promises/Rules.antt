@@ -2,8 +2,8 @@
 -- line the access that 02, P6 lets the answer show. The definitions say both modes at once. Theorems:
 -- `follows_the_rules`, what a line says of an accepted call is its outcome; `each_spoken_of`, the lines leave no
 -- accepted call out.
-use Rattle.std.specs.Prelude.{◌≡◌, ℕ, ◌+◌, ◌*◌, ◌≤◌, ◌<◌, get_or}
-use Rattle.machine.specs.{Places.{block_number, block, cell}, Records.idle}
+use Rattle.std.specs.Prelude.{◌≡◌, Option, None, Ok, ℕ, ◌+◌, ◌*◌, ◌≤◌, ◌<◌, get_or}
+use Rattle.machine.specs.{Places.{block_number, block, cell}, Records.idle, Turn.show}
 use Rattle.demands.specs.Memory.{Memory, state_of, turns_in, with_record, with_x, with_mark}
 use Rattle.demands.specs.Calls.{Outcome, event_of, name_at, standing, call}
 use Rattle.machine.specs.declared.{Settings.Settings, Direction.{Direction, TheVariants.{Right, Down}}}
@@ -11,16 +11,16 @@ use Rattle.machine.specs.declared.Point.{Point, TheVariants.{WriteX, Scan, Write
 use Rattle.machine.specs.declared.State.{State, TheVariants.{Idle, Seeking, Holding}}
 use Rattle.machine.specs.declared.{Kind.{Kind, TheVariants.{Ask, Turn, Release}}, Told.Told}
 use Rattle.machine.specs.declared.{Register.TheVariants.{X, Mark}, Letter.TheVariants.{R, W}}
-use Rattle.machine.specs.declared.Shown.{Shown, TheVariants.{Nothing, Touched}}
+use Rattle.machine.specs.declared.Shown.{Shown}
 use Rattle.demands.specs.promises.OneAccess.{AcceptedIn}
 
 -- ---- what the lines speak of
 
 -- task p stands so, has used so many turns, and is told so, "seeks" or "holds" with the name; this access is shown, and
 -- the registers are those of m
-abbrev pub stands_at : Settings → ℕ → State → ℕ → Shown → Memory → Outcome
+abbrev pub stands_at : Settings → ℕ → State → ℕ → Option Shown → Memory → Outcome
 stands_at s p state turns shown m = record {
-  answer = record { told = standing s state; shown = shown };
+  answer = Ok (record { told = standing s state; shown = shown });
   memory = with_record p (record { state = state; turns = turns }) m;
 }
 
@@ -29,9 +29,9 @@ abbrev pub one_more : Memory → ℕ → ℕ
 one_more m p = turns_in m p + 1
 
 -- task p has freed the name at (r, c) and is idle; this access is shown, and the registers are those of m
-abbrev pub frees_at : Settings → ℕ → ℕ → ℕ → Shown → Memory → Outcome
+abbrev pub frees_at : Settings → ℕ → ℕ → ℕ → Option Shown → Memory → Outcome
 frees_at s p r c shown m = record {
-  answer = record { told = Told.Freed (name_at s (cell r c)); shown = shown };
+  answer = Ok (record { told = Told.Freed (name_at s (cell r c)); shown = shown });
   memory = with_record p idle m;
 }
 
@@ -56,27 +56,27 @@ abbrev pub one_mark : Settings → Memory → ℕ → ℕ → ℕ
 one_mark s m r c = get_or m.marks (block_number s r c) 0
 
 -- the X number of the block at (r, c), and the mark at a place among its marks, read or written
-abbrev pub read_x : Settings → ℕ → ℕ → ℕ → Shown
-read_x s r c v = Touched R (X (block_number s r c)) v
+abbrev pub read_x : Settings → ℕ → ℕ → ℕ → Option Shown
+read_x s r c v = show R (X (block_number s r c)) v
 
-abbrev pub wrote_x : Settings → ℕ → ℕ → ℕ → Shown
-wrote_x s r c v = Touched W (X (block_number s r c)) v
+abbrev pub wrote_x : Settings → ℕ → ℕ → ℕ → Option Shown
+wrote_x s r c v = show W (X (block_number s r c)) v
 
-abbrev pub read_mark : Settings → ℕ → ℕ → ℕ → ℕ → Shown
-read_mark s r c place v = Touched R (Mark (block_number s r c) place) v
+abbrev pub read_mark : Settings → ℕ → ℕ → ℕ → ℕ → Option Shown
+read_mark s r c place v = show R (Mark (block_number s r c) place) v
 
-abbrev pub wrote_mark : Settings → ℕ → ℕ → ℕ → ℕ → Shown
-wrote_mark s r c place v = Touched W (Mark (block_number s r c) place) v
+abbrev pub wrote_mark : Settings → ℕ → ℕ → ℕ → ℕ → Option Shown
+wrote_mark s r c place v = show W (Mark (block_number s r c) place) v
 
 -- ---- the lines
 
 -- "If then r+c = k-1 the task holds that place in the same turn; else it stands at write X."
-pub data Arrives (s : Settings) (p r c turns : ℕ) (shown : Shown) (m : Memory) : Outcome → Type 0 where
+pub data Arrives (s : Settings) (p r c turns : ℕ) (shown : Option Shown) (m : Memory) : Outcome → Type 0 where
   at_edge : r + c + 1 ≡ s.k → Arrives s p r c turns shown m (stands_at s p (Holding (cell r c)) turns shown m)
   at_block : r + c + 2 ≤ s.k → Arrives s p r c turns shown m (stands_at s p (Seeking (block r c WriteX)) turns shown m)
 
 -- "A move adds 1 to c (right) or r (down)."
-abbrev pub Moves : Settings → ℕ → ℕ → ℕ → Direction → ℕ → Shown → Memory → Outcome → Type 0
+abbrev pub Moves : Settings → ℕ → ℕ → ℕ → Direction → ℕ → Option Shown → Memory → Outcome → Type 0
 Moves s p r c Right turns shown m to = Arrives s p r (c + 1) turns shown m to
 Moves s p r c Down turns shown m to = Arrives s p (r + 1) c turns shown m to
 
@@ -84,7 +84,7 @@ Moves s p r c Down turns shown m to = Arrives s p (r + 1) c turns shown m to
 pub data Says (s : Settings) (p : ℕ) (m : Memory) : Kind → Outcome → Type 0 where
   -- "Ask, for an idle task: it seeks at (0, 0), point write X. With k = 1 it holds (0, 0), name 0, at once. No register
   -- is touched."
-  asks : {to : Outcome} → state_of m p ≡ Idle → Arrives s p 0 0 0 Nothing m to → Says s p m Ask to
+  asks : {to : Outcome} → state_of m p ≡ Idle → Arrives s p 0 0 0 None m to → Says s p m Ask to
   -- "write X: the block's X becomes p+1; scan at 0."
   write_x : {r c : ℕ} → SeeksAt s p m r c WriteX
       → Says s p m Turn
@@ -131,7 +131,7 @@ pub data Says (s : Settings) (p : ℕ) (m : Memory) : Kind → Outcome → Type 
   release_block : {r c : ℕ} → s.mode ≡ 1 → state_of m p ≡ Holding (cell r c) → r + c + 2 ≤ s.k
       → Says s p m Release (frees_at s p r c (wrote_mark s r c p 0) (with_mark (mark_of s r c p) 0 m))
   release_edge : {r c : ℕ} → s.mode ≡ 1 → state_of m p ≡ Holding (cell r c) → r + c + 1 ≡ s.k
-      → Says s p m Release (frees_at s p r c Nothing m)
+      → Says s p m Release (frees_at s p r c None m)
 
 -- ---- the statements
 

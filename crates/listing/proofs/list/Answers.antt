@@ -1,16 +1,12 @@
--- The room holds one line of a file that does not open, or the lines of the run of one that does.
-use Rattle.machine.specs.declared.Opening.{Opening}
+-- The room holds the lines of the file, or the one line of a file that does not open.
+use Rattle.std.proofs.Common.{rules}
 use Rattle.listing.proofs.Contract.{text_listed}
 use Rattle.listing.proofs.list.Goals as goal
 
-pub returns-else-room-lt14 : goal.returns-else-room-lt14
-returns-else-room-lt14 c =
-    let opens = Opening.Refused c.in-Refused.why in
-    text_listed c.args.file.now c.args.room.now opens c.in-Refused.ensures _ _ c.if-room-lt14.false
-    c.put_refused.ensures
-
-pub returns-else-room-count : goal.returns-else-room-count
-returns-else-room-count c =
-    let opens = Opening.Opened c.in-Opened.settings c.in-Opened.count in
-    text_listed c.args.file.now c.args.room.now opens c.in-Opened.ensures _ _ c.if-room-count.false
-    c.put_lines.ensures
+pub returns : goal.returns
+returns c =
+    let p = c.put_listing.ensures in
+    let text = p.line.puts in
+    let same = p.same in
+    text_listed c.args.file.now c.args.room.now c.open-opened.result c.open-opened.ensures _ _ (search rules)
+    (search (rules, text, same))

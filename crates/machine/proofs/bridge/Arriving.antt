@@ -1,14 +1,13 @@
 -- Where a task comes to, how it leaves a block and what its release writes, as laws of `arrive`, `leave` and
 -- `release_access`.
 use mathlib.Core.Path.{◌≡◌}
-use Prim.Native.Nat.{ℕ, ◌+◌, ◌≤◌, ◌<◌}
+use Rattle.std.specs.Prelude.{None, ℕ, ◌+◌, ◌≤◌, ◌<◌}
 use borrow.Author.Tests.{eq-eqb, ne_eqb, le-leb, lt-leb}
-use Rattle.machine.specs.{Settings.own, Places.block_number, Grid.{arrive, move, leave}, Turn.release_access}
+use Rattle.machine.specs.{Settings.own, Places.block_number, Grid.{touch, arrive, move, leave}, Turn.release_access}
 use Rattle.machine.specs.declared.{Settings.Settings, Direction.Direction, Point.TheVariants.{WriteX, Clear}}
 use Rattle.machine.specs.Places.{block, cell}
 use Rattle.machine.specs.declared.State.TheVariants.{Seeking, Holding}
 use Rattle.machine.specs.declared.{Register.TheVariants.Mark, Op.TheVariants.Write}
-use Rattle.machine.specs.declared.Access.TheVariants.{NoAccess, Touch}
 
 module _ (s : Settings) (r c : ℕ) where
   -- the edge is held at once
@@ -29,9 +28,9 @@ module _ (s : Settings) (r c : ℕ) where
 
   -- a release clears the own mark of a block
   pub release_clears : (p : ℕ) → r + c + 2 ≤ s.k
-      → Touch (Mark (block_number s r c) (own s p)) (Write 0) ≡ release_access s p (Holding (cell r c))
+      → touch (Mark (block_number s r c) (own s p)) (Write 0) ≡ release_access s p (Holding (cell r c))
   release_clears p b = rw (le-leb (r + c + 2) s.k b)
 
   -- and touches nothing on the edge
-  pub release_nothing : (p : ℕ) → s.k < r + c + 2 → NoAccess ≡ release_access s p (Holding (cell r c))
+  pub release_nothing : (p : ℕ) → s.k < r + c + 2 → None ≡ release_access s p (Holding (cell r c))
   release_nothing p b = rw (lt-leb (r + c + 2) s.k b)

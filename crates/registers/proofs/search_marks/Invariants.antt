@@ -8,9 +8,3 @@ invariant-loop-place l = Low l.marks 1 (l.block * l.width + l.place)
 
 abbrev pub invariant-loop-block : goal.invariant-loop-block
 invariant-loop-block l = Low l.marks 1 (l.block * l.width)
-
-abbrev pub invariant-search : goal.invariant-search
-invariant-search l = Unit {0}
-
-abbrev pub decreases-search : goal.decreases-search
-decreases-search l = 0

@@ -1,12 +1,12 @@
 -- Before the first event nothing is put; event i has a code of 0 to 2, and is put behind those before it.
-use Rattle.std.proofs.Common.{◌∙◌, sym, rules, arith}
+use Rattle.std.proofs.Common.{◌∙◌, sym, arith}
 use Rattle.text.proofs.Putting.{put_nothing}
 use Rattle.writer.proofs.Bytes.{put_more}
 use Rattle.writer.proofs.Codes.{code_known}
 use Rattle.writer.proofs.put_events.Goals as goal
 
 pub loop-i-init : goal.loop-i-init
-loop-i-init c = (search rules, sym (put_nothing _ 11))
+loop-i-init c = sym (put_nothing _ 11)
 
 pub put_event-requires : goal.put_event-requires
 put_event-requires c =
@@ -14,6 +14,5 @@ put_event-requires c =
 
 pub loop-i-preserved : goal.loop-i-preserved
 loop-i-preserved c =
-    let events = c.args.events.now in
-    let more = put_more _ _ events _ c.loop-i-test.true c.requires.events_in_bounds c.loop-i.invariant.1 in
-    (search rules, c.put_event.ensures ∙ more)
+    c.put_event.ensures
+    ∙ put_more _ _ c.args.events.now _ c.loop-i-test.true c.requires.events_in_bounds c.loop-i.invariant
