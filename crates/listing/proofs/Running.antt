@@ -20,7 +20,7 @@ fresh s records xs marks answer after idle clear clean is =
 
 -- the run stands where the definition is after i events, and the page has the lines so far
 pub record Stands (s : Settings) (file : List ℕ) (i : ℕ) (first : Page) (run : Run) (page : Page) : Type 0 where
-  pub of : run.settings ≡ s
+  pub settings : run.settings ≡ s
   pub lines : List ℕ
   pub stands : progress_of run lines ≡ progress s file i
   pub printed : Adds (23 + 56 * i) first lines page
@@ -34,12 +34,12 @@ module _ (s : Settings) (file : List ℕ) (first : Page) (i : ℕ) (old : Run) (
       let event = event_at file i in
       let here = progress_of old before.lines in
       let lines = before.lines ++ event_line i event answer in
-      let called = rw before.of at step.called in
-      let peak = rw before.of at step.peak in
+      let called = rw before.settings at step.called in
+      let peak = rw before.settings at step.peak in
       let counted : progress_of new lines ≡ advance_by s i event (leaves answer (memory_of new)) here =
       λ k. record { memory = memory_of new; peak = peak k; most = step.most k; lines = lines } in
       record {
-        of = step.of ∙ before.of;
+        settings = step.settings ∙ before.settings;
         lines = lines;
         stands = counted
             ∙ ap (λ (outcome : Outcome). advance_by s i event outcome here) called
@@ -52,5 +52,5 @@ module _ (s : Settings) (file : List ℕ) (first : Page) (i : ℕ) (old : Run) (
       → holders ≡ holders_of old.settings old.records → Adds 27 page (end_line holders old.peak old.most) after
       → Adds (50 + 56 * i) first (ended s (progress s file i)) after
   ends holders after left counted line =
-      let last = rw (counted, before.of) at line in
+      let last = rw (counted, before.settings) at line in
       rw (sym before.stands) (wider (then before.printed 27 left (λ more. last)) (50 + 56 * i) (omega arith))

@@ -17,14 +17,14 @@ progress_of run lines = record { memory = memory_of run; peak = run.peak; most =
 
 -- setup on the largest memory, and nothing counted yet
 pub record Begun (s : Settings) (run : Run) : Type 0 where
-  pub of : run.settings ≡ s
+  pub settings : run.settings ≡ s
   pub memory : memory_of run ≡ (setup s largest).memory
   pub peak : run.peak ≡ 0
   pub most : run.most ≡ 0
 
 -- the call, PEAK from who is out after it, and MOST from the record of a task that took its name
 pub record Advanced (event : Event) (old : Run) (answer : Reply) (new : Run) : Type 0 where
-  pub of : new.settings ≡ old.settings
+  pub settings : new.settings ≡ old.settings
   pub called : leaves answer (memory_of new) ≡ call old.settings event (memory_of old)
   pub peak : new.peak ≡ max old.peak (out_of old.settings new.records)
   pub most : new.most ≡ max old.most (completed (told_in answer) (turns_in (memory_of new) event.task.0))

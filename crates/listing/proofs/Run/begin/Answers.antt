@@ -5,7 +5,7 @@ use Rattle.listing.proofs.Run.begin.Goals as goal
 
 pub returns : goal.returns
 returns c = record {
-  of = refl;
+  settings = refl;
   memory = fresh c.args.settings _ _ _ c.setup.result _ c.idle_records-records.ensures refl refl c.setup.ensures;
   peak = refl;
   most = refl;
