@@ -11,11 +11,18 @@ use std::io::{self, Read, Write};
 // The length of the longest listing: 50 bytes, and 56 for each of 16,384 events.
 const LONGEST: usize = 917554;
 
-// Reads `from`, which is standard input, to its end, or as far as the buffer holds.
-fn read_input(from: impl Read + Drop, input: &mut [u8]) -> io::Result<usize> {
-    let mut rest = input;
-    let most = rest.len() as u64;
-    Ok(io::copy(&mut from.take(most), &mut rest)? as usize)
+// Reads `from`, which is standard input, to its end, or as far as the buffer holds. Each read asks for all
+// that is left of the buffer, and `io::copy`, which asks for 8,192 bytes, would cut a longer packet.
+fn read_input(mut from: impl Read + Drop, input: &mut [u8]) -> io::Result<usize> {
+    let mut n = 0;
+    while n < input.len() {
+        let more = from.read(&mut input[n..])?;
+        if more == 0 {
+            break;
+        }
+        n += more;
+    }
+    Ok(n)
 }
 
 // Room for the longest listing.

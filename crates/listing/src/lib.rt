@@ -46,25 +46,34 @@ fn completed(answer: Result<Answer, Refusal>, turns: u32) -> u32
 }
 
 impl Run {
-    ghost use Rattle.listing.specs.Runs.{Begun, Advanced};
+    ghost use Rattle.listing.specs.Runs.{Fresh, Begun, Advanced};
 
-    // A run at its beginning: setup on fresh memory.
-    fn begin(settings: Settings) -> Run
+    // A run before its beginning, on memory that nobody has used.
+    fn fresh(settings: Settings) -> Run
         requires { settings.n ≤ 256 }
-        ensures { Begun settings result }
+        ensures { Fresh settings result }
     {
-        let mut records = calls::idle_records();
-        let mut xs = [0; 120];
-        let mut marks = [0; 30720];
-        let _ = calls::setup(settings, &mut records, &mut xs, &mut marks);
         Run {
             settings,
-            records,
-            xs,
-            marks,
+            records: calls::idle_records(),
+            xs: [0; 120],
+            marks: [0; 30720],
             peak: 0,
             most: 0,
         }
+    }
+
+    // Its beginning: setup. In place, since a run that is returned after it is copied, and the stack has both.
+    fn begin(&mut self)
+        requires { Fresh self.old.settings self.old }
+        ensures { Begun self.old.settings self.new }
+    {
+        let _ = calls::setup(
+            self.settings,
+            &mut self.records,
+            &mut self.xs,
+            &mut self.marks,
+        );
     }
 
     // The records of the N tasks.
@@ -77,14 +86,14 @@ impl Run {
     // How many of them are out. Two chains of a line: one with the test as a parameter would have its
     // `post` in the contract.
     fn tasks_out(&self) -> u16
-        ensures { result ≡ out_of self.now.settings self.now.records }
+        ensures { (result ≡ out_of self.now.settings self.now.records) × (result ≤ 256) }
     {
         self.tasks().iter().filter(|own| is_out(**own)).count() as u16
     }
 
     // How many of them hold.
     fn holders(&self) -> u16
-        ensures { result ≡ holders_of self.now.settings self.now.records }
+        ensures { (result ≡ holders_of self.now.settings self.now.records) × (result ≤ 256) }
     {
         self.tasks().iter().filter(|own| is_holding(**own)).count() as u16
     }
@@ -122,7 +131,8 @@ fn put_lines(file: &[u8], opened: Opened, page: &mut Page)
     ensures { Adds (50 + 56 * opened.count) page.old (listing_by (Ok opened) file.now) page.new }
 {
     let Opened { settings, count } = opened;
-    let mut run = Run::begin(settings);
+    let mut run = Run::fresh(settings);
+    run.begin();
     let mut reader = Reader::new(file);
     page.put_grid(settings);
     for position in 0..count {

@@ -16,18 +16,15 @@ const STDIN_FILENO: i32 = 0;
 
 const STDOUT_FILENO: i32 = 1;
 
-// Standard output by `io`, which asks no C function why a write failed. `memories` and `schedule_edges`
-// have it each: a crate for it would be longer.
+// Standard output by `io`, which asks no C function why a write failed: one that fails is passed over, and
+// the next is tried. `memories` and `schedule_edges` have it each: a crate for it would be longer.
 #[derive(Drop)]
 struct Output;
 
 impl Write for Output {
     fn write_str(&mut self, text: &str) -> fmt::Result {
-        if io::write_all(STDOUT_FILENO, text.as_bytes()) {
-            Ok(())
-        } else {
-            Err(fmt::Error)
-        }
+        io::write_all(STDOUT_FILENO, text.as_bytes());
+        Ok(())
     }
 }
 
@@ -164,12 +161,11 @@ fn answer_of(
 fn write_refusal(out: &mut impl Write, why: Refusal) -> fmt::Result {
     write!(out, "refused {}", why.number())?;
     if let Refusal::OutOfRange { row, index } = why {
-        let name = match row {
-            Row::Records => "records",
-            Row::Xs => "x",
-            Row::Marks => "marks",
-        };
-        write!(out, " {name} {index}")?;
+        match row {
+            Row::Records => write!(out, " records {index}")?,
+            Row::Xs => write!(out, " x {index}")?,
+            Row::Marks => write!(out, " marks {index}")?,
+        }
     }
     Ok(())
 }
@@ -186,14 +182,15 @@ fn write_access(out: &mut impl Write, shown: Option<Shown>) -> fmt::Result {
     else {
         return write!(out, " none");
     };
-    let letter = match letter {
-        Letter::R => "R",
-        Letter::W => "W",
-    };
-    match register {
-        Register::X { block } => write!(out, " {letter} X {block} 0 {value}"),
-        Register::Mark { block, place } => write!(out, " {letter} M {block} {place} {value}"),
+    match letter {
+        Letter::R => write!(out, " R ")?,
+        Letter::W => write!(out, " W ")?,
     }
+    match register {
+        Register::X { block } => write!(out, "X {block} 0")?,
+        Register::Mark { block, place } => write!(out, "M {block} {place}")?,
+    }
+    write!(out, " {value}")
 }
 
 fn write_answer(out: &mut impl Write, answer: Answer, shows_access: bool) -> fmt::Result {
@@ -278,7 +275,8 @@ fn serve(bytes: &mut Bytes, out: &mut impl Write) -> fmt::Result {
         Ok(answer) => write_answer(out, answer, case.shows_access)?,
         Err(why) => write_refusal(out, why)?,
     }
-    write!(out, "\nrecords")?;
+    writeln!(out)?;
+    write!(out, "records")?;
     for record in records.iter().take(record_count) {
         write_record(out, *record)?;
     }
@@ -299,7 +297,7 @@ fn serve_all(input: &[u8], out: &mut impl Write) -> fmt::Result {
     Ok(())
 }
 
-// Up to 65,536 bytes are served. A read that fails ends the input, and a write that fails the output.
+// Up to 65,536 bytes are served. A read that fails ends the input.
 fn main() {
     let mut input = io::large_buffer();
     let count = io::read_full(STDIN_FILENO, &mut input);

@@ -11,18 +11,22 @@ use std::fmt::{self, Write};
 // The number of standard output.
 const STDOUT_FILENO: i32 = 1;
 
-// Standard output by `io`, which asks no C function why a write failed. `memories` and `schedule_edges`
-// have it each: a crate for it would be longer.
+// Standard output by `io`, which asks no C function why a write failed: one that fails is passed over, and
+// the next is tried. `memories` and `schedule_edges` have it each: a crate for it would be longer.
 #[derive(Drop)]
 struct Output;
 
 impl Write for Output {
     fn write_str(&mut self, text: &str) -> fmt::Result {
-        if io::write_all(STDOUT_FILENO, text.as_bytes()) {
-            Ok(())
-        } else {
-            Err(fmt::Error)
-        }
+        io::write_all(STDOUT_FILENO, text.as_bytes());
+        Ok(())
+    }
+}
+
+impl Output {
+    // A number in so many hexadecimal digits, in one piece: `write!` makes pieces of leading zeros.
+    fn hex(&mut self, n: u64, digits: usize) {
+        io::print_hex(STDOUT_FILENO, n, digits);
     }
 }
 
@@ -36,27 +40,45 @@ fn numbered(event: Event) -> u32 {
     65536 * (event.kind as u32) + u32::from(event.task.0)
 }
 
-// open ANSWER, with mode, N, k, version and count where the file is accepted.
-fn open(out: &mut impl Write, file: &[u8]) -> fmt::Result {
-    match schedule::open(file) {
-        Ok(Opened { settings, count }) => writeln!(
-            out,
-            "open 0 {} {} {} {} {count}",
-            settings.mode, settings.n, settings.k, settings.version
-        ),
-        Err(why) => writeln!(out, "open {}", why.number()),
+// Numbers, each behind a space.
+fn numbers(out: &mut Output, numbers: &[u64]) -> fmt::Result {
+    for number in numbers {
+        write!(out, " {number}")?;
     }
+    Ok(())
+}
+
+// open ANSWER, with mode, N, k, version and count where the file is accepted.
+fn open(out: &mut Output, file: &[u8]) -> fmt::Result {
+    write!(out, "open")?;
+    match schedule::open(file) {
+        Ok(Opened { settings, count }) => numbers(
+            out,
+            &[
+                0,
+                u64::from(settings.mode),
+                u64::from(settings.n),
+                u64::from(settings.k),
+                u64::from(settings.version),
+                u64::from(count),
+            ],
+        )?,
+        Err(why) => numbers(out, &[u64::from(why.number())])?,
+    }
+    writeln!(out)
 }
 
 // read POSITION ANSWER, with code and identifier where an event is given, and the position after it.
-fn read(out: &mut impl Write, file: &[u8], at: usize) -> fmt::Result {
+fn read(out: &mut Output, file: &[u8], at: usize) -> fmt::Result {
     let next = schedule::read(file, at);
-    write!(out, "read {at} ")?;
+    write!(out, "read")?;
+    numbers(out, &[at as u64])?;
     match next.answer {
-        Ok(event) => write!(out, "0 {} {}", event.kind as u32, event.task.0)?,
-        Err(why) => write!(out, "{}", why.number())?,
+        Ok(event) => numbers(out, &[0, event.kind as u64, u64::from(event.task.0)])?,
+        Err(why) => numbers(out, &[u64::from(why.number())])?,
     }
-    writeln!(out, " {}", next.at)
+    numbers(out, &[next.at as u64])?;
+    writeln!(out)
 }
 
 // The number that a reader at a position answers, as it is printed.
@@ -81,16 +103,21 @@ fn answers(mut file: [u8; 20], place: usize, byte: u8) -> [u16; 5]
 }
 
 // byte PLACE FROM TO ANSWERS, with one hexadecimal digit for each answer
-fn run(out: &mut impl Write, place: usize, from: u8, to: u8, answers: [u16; 5]) -> fmt::Result {
-    write!(out, "byte {place} {from} {to} ")?;
-    for answer in answers {
-        write!(out, "{answer:x}")?;
-    }
+fn run(out: &mut Output, place: usize, from: u8, to: u8, answers: [u16; 5]) -> fmt::Result {
+    write!(out, "byte")?;
+    numbers(out, &[place as u64, u64::from(from), u64::from(to)])?;
+    write!(out, " ")?;
+    out.hex(
+        answers
+            .iter()
+            .fold(0, |all, answer| all << 4 | u64::from(*answer)),
+        5,
+    );
     writeln!(out)
 }
 
 // A place of the file changed to every byte, in runs of equal answers.
-fn changed(out: &mut impl Write, file: [u8; 20], place: usize) -> fmt::Result
+fn changed(out: &mut Output, file: [u8; 20], place: usize) -> fmt::Result
     requires { place < 20 }
 {
     let mut from = 0u8;
@@ -107,21 +134,28 @@ fn changed(out: &mut impl Write, file: [u8; 20], place: usize) -> fmt::Result
 }
 
 // The file cut at every length.
-fn cuts(out: &mut impl Write, file: &[u8]) -> fmt::Result {
+fn cuts(out: &mut Output, file: &[u8]) -> fmt::Result {
     for cut in 0..=file.len() {
-        writeln!(out, "cut {cut} {}", number(schedule::open(&file[..cut])))?;
+        write!(out, "cut")?;
+        numbers(
+            out,
+            &[cut as u64, u64::from(number(schedule::open(&file[..cut])))],
+        )?;
+        writeln!(out)?;
     }
     Ok(())
 }
 
 // write ANSWER, with how many bytes where it is accepted, and the room afterwards.
-fn write(out: &mut impl Write, s: Settings, events: &[u32], room: &mut [u8]) -> fmt::Result {
+fn write(out: &mut Output, s: Settings, events: &[u32], room: &mut [u8]) -> fmt::Result {
+    write!(out, "write")?;
     match schedule::write(s, events, room) {
-        Ok(count) => write!(out, "write 0 {count} ")?,
-        Err(why) => write!(out, "write {} ", why.number())?,
+        Ok(count) => numbers(out, &[0, count as u64])?,
+        Err(why) => numbers(out, &[u64::from(why.number())])?,
     }
+    write!(out, " ")?;
     for byte in room.iter() {
-        write!(out, "{byte:02x}")?;
+        out.hex(u64::from(*byte), 2);
     }
     writeln!(out)
 }
@@ -132,7 +166,7 @@ fn event(file: &[u8], at: usize) -> u32 {
 }
 
 // A file of three events with another version: opening, and what it gives read and written back.
-fn version(out: &mut impl Write, mut file: [u8; 20], version: u16) -> fmt::Result {
+fn version(out: &mut Output, mut file: [u8; 20], version: u16) -> fmt::Result {
     let [low, high] = version.to_le_bytes();
     file[3] = low;
     file[4] = high;
@@ -145,7 +179,7 @@ fn version(out: &mut impl Write, mut file: [u8; 20], version: u16) -> fmt::Resul
 }
 
 // The largest file, one event more, and one byte more or less than its length.
-fn largest(out: &mut impl Write) -> fmt::Result {
+fn largest(out: &mut Output) -> fmt::Result {
     let mut file = [0u8; 49166];
     open(out, &file[..0])?;
     file[..11].copy_from_slice(&[b'G', b'R', b'S', 1, 0, 1, 0, 1, 16, 0, 64]);
@@ -167,7 +201,7 @@ fn largest(out: &mut impl Write) -> fmt::Result {
 
 // A file of three events, read, cut, changed at every place, and with versions 0 to 3 and two whose
 // high byte is not 0.
-fn small(out: &mut impl Write) -> fmt::Result {
+fn small(out: &mut Output) -> fmt::Result {
     let file = [
         71, 82, 83, 1, 0, 1, 2, 0, 2, 3, 0, 0, 0, 0, 1, 1, 0, 2, 255, 255,
     ];
@@ -186,7 +220,7 @@ fn small(out: &mut impl Write) -> fmt::Result {
 }
 
 // The writer: what is refused, the first reason first, and with settings of each version.
-fn writes(out: &mut impl Write) -> fmt::Result {
+fn writes(out: &mut Output) -> fmt::Result {
     let good = Settings {
         mode: 1,
         n: 2,
@@ -214,13 +248,12 @@ fn writes(out: &mut impl Write) -> fmt::Result {
     Ok(())
 }
 
-fn edges(out: &mut impl Write) -> fmt::Result {
+fn edges(out: &mut Output) -> fmt::Result {
     largest(out)?;
     small(out)?;
     writes(out)
 }
 
-// A write that fails ends what is printed.
 fn main() {
     let _ = edges(&mut Output);
 }

@@ -109,13 +109,13 @@ fn tell_energy(channel: Channel, row: Option<Name>) {
     say(b"energy ");
     number(channel.id);
     match row {
-        None => say(b" has no row"),
+        None => say(b" has no row\n"),
         Some(name) => {
             say(b" to row ");
             number(name.0);
+            say(b"\n");
         }
     }
-    say(b"\n");
 }
 
 // ---- what is kept

@@ -4,9 +4,10 @@ use Rattle.listing.proofs.Running.{fresh}
 use Rattle.listing.proofs.Run.begin.Goals as goal
 
 pub returns : goal.returns
-returns c = record {
-  settings = refl;
-  memory = fresh c.args.settings _ _ _ c.setup.result _ c.idle_records-records.ensures refl refl c.setup.ensures;
-  peak = refl;
-  most = refl;
-}
+returns c =
+    let new = c.requires in record {
+      settings = refl;
+      memory = fresh c.args.self.now.settings _ _ _ c.setup.result _ new.records new.xs new.marks c.setup.ensures;
+      peak = new.peak;
+      most = new.most;
+    }

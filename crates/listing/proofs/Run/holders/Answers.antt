@@ -10,4 +10,4 @@ returns c =
     let run = c.args.self.now in
     let tasks = take run.settings.n run.records in
     let along : c.count.result ≡ count_by (λ own. is_holding own.state) tasks = search rules in
-    along ∙ counted (λ own. is_holding own.state) run.records run.settings.n (search rules)
+    (along ∙ counted (λ own. is_holding own.state) run.records run.settings.n (search rules), search rules)
