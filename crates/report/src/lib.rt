@@ -115,9 +115,11 @@ impl Page<'_> {
         requires { Fits 26 self.old }
         ensures { Adds 26 self.old (shown_text (Some shown)) self.new }
     {
+        let block = block_of(shown.register);
+        let place = place_of(shown.register);
         self.text(letter_text(shown.letter));
-        self.labelled(register_text(shown.register), block_of(shown.register));
-        self.labelled(b" ", place_of(shown.register));
+        self.labelled(register_text(shown.register), block);
+        self.labelled(b" ", place);
         self.text(b" ");
         self.number(shown.value);
     }
@@ -139,7 +141,7 @@ impl Page<'_> {
         ensures { Adds 27 self.old (fields_text kind shown) self.new }
     {
         match kind {
-            Kind::Ask => {}
+            Kind::Ask => self.text(b""),
             Kind::Turn | Kind::Release => {
                 self.text(b" ");
                 self.shown(shown);
