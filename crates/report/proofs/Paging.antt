@@ -1,20 +1,12 @@
 -- Laws of writing one piece of a line after another on a page.
-use mathlib.Core.{Path.{◌≡◌, refl, sym, subst, ◌∙◌}, List.{List, [], ◌++◌}}
+use mathlib.Core.{Path.{◌≡◌, subst, ◌∙◌}, List.{List, ◌++◌}}
 use Prim.Native.Nat.{ℕ, ◌+◌, ◌≤◌, ◌<◌, ◌^◌}
-use native.Mathlib.Omega.{arith}
 use lib.ListN.{length}
-use Rattle.text.specs.{Decimal.decimal, Put.Puts}
-use Rattle.text.proofs.Putting.{put_nothing, puts_determined}
+use Rattle.text.specs.{Decimal.decimal}
+use Rattle.text.proofs.Putting.{puts_determined}
 use Rattle.report.specs.{declared.Page.Page, Pages.{Adds, Fits}}
 use Rattle.report.proofs.Writing as writing
 use Rattle.report.proofs.Writing.{five_digits, ten_digits, within}
-
--- nothing is written
-pub nothing : (page : Page) (most : ℕ) → Adds most page [] page
-nothing page most =
-    let puts : Puts page.room.now page.at [] page.at page.room.now =
-    record { past = omega arith; room_after = sym (put_nothing page.room.now page.at) } in
-    record { same = refl; long = refl; line = within puts most (omega arith) }
 
 module _ {page after : Page} {a : ℕ} {x : List ℕ} (w : Adds a page x after) where
   -- another bound on the text, and the text said in another way
