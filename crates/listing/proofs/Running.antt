@@ -10,13 +10,15 @@ use Rattle.printed.specs.Listing.{event_line, end_line, holders_of, advance_by, 
 use Rattle.report.{specs.{declared.Page.Page, Pages.{Adds, Fits}}, proofs.Paging.{then, wider}}
 use Rattle.listing.specs.{declared.Run.Run, Runs.{memory_of, progress_of, Advanced}}
 
--- setup on rows as long as the largest settings need, all idle and 0, leaves the beginning's memory
-pub fresh : (s : Settings) (records : List Record) (xs marks : List ℕ) (answer : Reply) (after : Memory)
-    → records ≡ replicate 256 idle → xs ≡ replicate 120 0 → marks ≡ replicate 30720 0
-    → leaves answer after ≡ setup s (lent records xs marks) → after ≡ (setup s largest).memory
-fresh s records xs marks answer after idle clear clean is =
-    let rows : lent records xs marks ≡ largest = λ k. lent (idle k) (clear k) (clean k) in
-    ap (λ (outcome : Outcome). outcome.memory) (is ∙ ap (setup s) rows)
+-- rows as long as the largest settings need, all idle and 0, are the largest memory
+pub fresh_rows : (records : List Record) (xs marks : List ℕ) → records ≡ replicate 256 idle → xs ≡ replicate 120 0
+    → marks ≡ replicate 30720 0 → lent records xs marks ≡ largest
+fresh_rows records xs marks idle clear clean = λ k. lent (idle k) (clear k) (clean k)
+
+-- and setup on it leaves the beginning's memory
+pub fresh : (s : Settings) (before after : Memory) (answer : Reply) → before ≡ largest
+    → leaves answer after ≡ setup s before → after ≡ (setup s largest).memory
+fresh s before after answer rows is = ap (λ (outcome : Outcome). outcome.memory) (is ∙ ap (setup s) rows)
 
 -- the run stands where the definition is after i events, and the page has the lines so far
 pub record Stands (s : Settings) (file : List ℕ) (i : ℕ) (first : Page) (run : Run) (page : Page) : Type 0 where

@@ -1,8 +1,8 @@
 -- What the steps of a run leave: its beginning, and one event more.
 use mathlib.Core.{Path.{◌≡◌}, List.{List}}
-use Rattle.std.specs.Prelude.{ℕ, max, replicate}
+use Rattle.std.specs.Prelude.{ℕ, max}
 use Rattle.printed.specs.Listing.{Progress, completed}
-use Rattle.machine.specs.{Records.idle, declared.{Settings.Settings, Event.Event}}
+use Rattle.machine.specs.declared.{Settings.Settings, Event.Event}
 use Rattle.demands.specs.{Memory.{Memory, turns_in, out_of, largest}, Answers.{Reply, told_in}, Calls.{setup, call}}
 use Rattle.demands.specs.Lent.{lent, leaves}
 use Rattle.listing.specs.declared.Run.{Run}
@@ -15,12 +15,10 @@ memory_of run = lent run.records run.xs run.marks
 abbrev pub progress_of : Run → List ℕ → Progress
 progress_of run lines = record { memory = memory_of run; peak = run.peak; most = run.most; lines = lines }
 
--- rows as long as the largest settings need, all idle and 0, and nothing counted yet
+-- the largest memory before its setup, and nothing counted yet
 pub record Fresh (s : Settings) (run : Run) : Type 0 where
   pub settings : run.settings ≡ s
-  pub records : run.records ≡ replicate 256 idle
-  pub xs : run.xs ≡ replicate 120 0
-  pub marks : run.marks ≡ replicate 30720 0
+  pub memory : memory_of run ≡ largest
   pub peak : run.peak ≡ 0
   pub most : run.most ≡ 0
 

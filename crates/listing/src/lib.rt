@@ -63,7 +63,8 @@ impl Run {
         }
     }
 
-    // Its beginning: setup. In place, since a run that is returned after it is copied, and the stack has both.
+    // Its beginning: setup, where the run stays. One that was set up and then returned would be copied, and
+    // the stack would have it twice.
     fn begin(&mut self)
         requires { Fresh self.old.settings self.old }
         ensures { Begun self.old.settings self.new }

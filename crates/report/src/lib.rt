@@ -135,7 +135,8 @@ impl Page<'_> {
         }
     }
 
-    // A space and the fields, behind the answer to a turn or a release; nothing behind that to an ask.
+    // A space and the fields, behind the answer to a turn or a release; behind that to an ask nothing, which
+    // is a text too.
     fn fields(&mut self, kind: Kind, shown: Option<Shown>)
         requires { Fits 27 self.old }
         ensures { Adds 27 self.old (fields_text kind shown) self.new }

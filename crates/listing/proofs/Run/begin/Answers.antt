@@ -7,7 +7,7 @@ pub returns : goal.returns
 returns c =
     let new = c.requires in record {
       settings = refl;
-      memory = fresh c.args.self.now.settings _ _ _ c.setup.result _ new.records new.xs new.marks c.setup.ensures;
+      memory = fresh c.args.self.now.settings _ _ c.setup.result new.memory c.setup.ensures;
       peak = new.peak;
       most = new.most;
     }
